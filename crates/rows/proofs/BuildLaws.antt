@@ -1,0 +1,63 @@
+-- The laws of `build` and of `same`: lists by their elements.
+use Prim.Native.Nat.{ℕ, zero, suc, _+_, _≤_, _<_}
+use native.Mathlib.Nat.{le-antisymm, le-of-suc-le-suc, not-suc-le-zero, eq-or-lt-of-le}
+use native.Mathlib.Numerals.{add-one}
+use native.Mathlib.Omega.{arith}
+use mathlib.Core.Path.{_≡_, refl, sym, ap, _∙_}
+use mathlib.Core.Logic.{⊎-elim}
+use mathlib.Core.Bool.{true}
+use mathlib.Core.List.{List, [], _∷_, _++_, append-nil}
+use lib.Dec.{eqb}
+use lib.ListN.{length, drop, getD, set, length-append, List·getD-append, drop-of-length-le}
+use lib.Seq.{drop-cons, set-at, append-snoc, ext-getD, getD-at}
+use borrow.Author.Tests.{eqb-true, eq-eqb}
+use Rattle.rows.proofs.BoolLaws.{and-left, and-right, and-both}
+use Rattle.rows.proofs.IndexLaws.{all-at, all-from}
+use Rattle.rows.specs.Words.{all, build, sameAt, same}
+
+module _ (f : ℕ → ℕ) where
+  pub length-build : (n : ℕ) → length (build f n) ≡ n
+  unfolding build
+  length-build zero = refl
+  length-build (suc n) = simp (length-append, length-build n) (omega arith)
+
+  pub getD-build : (n k d : ℕ) → k < n → getD (build f n) k d ≡ f k
+  unfolding build
+  getD-build zero k d l = absurd (not-suc-le-zero l)
+  getD-build (suc n) k d l = ⊎-elim
+      (λ e. rw e (getD-at (build f n) (f n) [] d n (length-build n)))
+      (λ lt. List·getD-append (build f n) (f n ∷ []) d k (rw length-build lt) ∙ getD-build n k d lt)
+      (eq-or-lt-of-le (le-of-suc-le-suc l))
+
+  -- a loop that stores f k at k: its begin, a turn's store and its end
+  pub build-none : (l : List ℕ) → l ≡ build f 0 ++ drop 0 l
+  unfolding build
+  build-none l = refl
+
+  pub build-store : (l : List ℕ) (k : ℕ) → k < length l → set (build f k ++ drop k l) k (f k) ≡ build f (k + 1) ++ drop (k + 1) l
+  unfolding build
+  build-store l k h =
+      rw (add-one, drop-cons l k 0 h)
+      (set-at (build f k) (getD l k 0) (drop (suc k) l) (f k) k (length-build k)
+      ∙ sym (append-snoc (build f k) (f k) (drop (suc k) l)))
+
+  pub build-done : (l : List ℕ) (n k : ℕ) → k ≤ n → n ≤ k → length l ≤ n → build f k ++ drop k l ≡ build f n
+  build-done l n k a b h =
+      ap (λ (j : ℕ). build f j ++ drop j l) (le-antisymm a b)
+      ∙ rw (drop-of-length-le l h) (append-nil (build f n))
+
+-- a list is what its elements build
+pub build-list : (l : List ℕ) (n : ℕ) → length l ≡ n → build (λ k. getD l k 0) n ≡ l
+build-list l n h = ext-getD 0 _ _ (length-build _ n ∙ sym h)
+    (λ i b. getD-build _ n i 0 (omega (arith, length-build (λ k. getD l k 0) n)))
+
+-- two lists are the same where they are equal
+pub same-is : (a b : List ℕ) → same a b ≡ true → a ≡ b
+unfolding same sameAt
+same-is a b h = ext-getD 0 a b
+    (eqb-true _ _ (and-left (eqb (length a) (length b)) (all (sameAt a b) (length a)) h))
+    (λ i l. eqb-true _ _ (all-at (sameAt a b) (length a) i (and-right (eqb (length a) (length b)) (all (sameAt a b) (length a)) h) l))
+
+pub same-refl : (a : List ℕ) → same a a ≡ true
+unfolding same sameAt
+same-refl a = and-both (eq-eqb (length a) (length a) refl) (all-from (sameAt a a) (length a) (λ i l. eq-eqb (getD a i 0) (getD a i 0) refl))

@@ -1,0 +1,123 @@
+-- The laws of `all`, `any` and `first`: what a loop over an index shows, stated once.
+use Prim.Native.Nat.{ℕ, zero, suc, _+_, _≤_, _<_}
+use native.Mathlib.Nat.{le-antisymm, le-of-suc-le-suc, not-suc-le-zero, eq-or-lt-of-le}
+use native.Mathlib.Numerals.{add-one}
+use native.Mathlib.Omega.{arith}
+use mathlib.Core.Path.{_≡_, refl, sym, ap, _∙_, subst}
+use mathlib.Core.Logic.{⊎-elim}
+use mathlib.Core.Bool.{Bool, true, false, _||_}
+use lib.Dec.{ltb}
+use borrow.Author.Tests.{lt-ltb, le-ltb}
+use Rattle.rows.proofs.BoolLaws.{by-test, both, and-fails}
+use Rattle.rows.specs.Words.{all, any, first}
+
+module _ (p : ℕ → Bool) where
+  -- where p fails at one index, it does not hold at all
+  pub all-breaks : (n i : ℕ) → i < n → p i ≡ false → all p n ≡ false
+  unfolding all
+  all-breaks zero i l h = absurd (not-suc-le-zero l)
+  all-breaks (suc n) i l h = ⊎-elim
+      (λ e. and-fails (all p n) (p n) (ap p (sym e) ∙ h))
+      (λ lt. rw (all-breaks n i lt h))
+      (eq-or-lt-of-le (le-of-suc-le-suc l))
+
+  -- where p holds at one index, it holds at some
+  pub any-at : (n i : ℕ) → i < n → p i ≡ true → any p n ≡ true
+  unfolding any
+  any-at zero i l h = absurd (not-suc-le-zero l)
+  any-at (suc n) i l h = ⊎-elim
+      (λ e. last (any p n) (p n) (ap p (sym e) ∙ h))
+      (λ lt. rw (any-at n i lt h))
+      (eq-or-lt-of-le (le-of-suc-le-suc l))
+    where
+      last : (a b : Bool) → b ≡ true → (a || b) ≡ true
+      last true b e = refl
+      last false b e = e
+
+  -- what `all` says of each index, and the other way
+  pub all-at : (n i : ℕ) → all p n ≡ true → i < n → p i ≡ true
+  all-at n i a l = by-test (p i) (λ y. y) (λ h. both a (all-breaks n i l h))
+
+  pub all-from : (n : ℕ) → ((i : ℕ) → i < n → p i ≡ true) → all p n ≡ true
+  unfolding all
+  all-from zero h = refl
+  all-from (suc n) h = rw (all-from n (λ i l. h i (omega arith)), h n (omega arith))
+
+  -- what a failing `any` says of each index, and the other way
+  pub none-at : (n i : ℕ) → any p n ≡ false → i < n → p i ≡ false
+  none-at n i a l = by-test (p i) (λ h. both (any-at n i l h) a) (λ y. y)
+
+  pub none-from : (n : ℕ) → ((i : ℕ) → i < n → p i ≡ false) → any p n ≡ false
+  unfolding any
+  none-from zero h = refl
+  none-from (suc n) h = rw (none-from n (λ i l. h i (omega arith)), h n (omega arith))
+
+  -- a search: none below i and p at i; none at all
+  pub first-hit : (n i : ℕ) → i < n → any p i ≡ false → p i ≡ true → first p n ≡ i
+  unfolding first
+  first-hit zero i l a h = absurd (not-suc-le-zero l)
+  first-hit (suc n) i l a h = ⊎-elim
+      (λ e. rw (e, rw e at a, rw e at h))
+      (λ lt. rw (any-at n i lt h, first-hit n i lt a h))
+      (eq-or-lt-of-le (le-of-suc-le-suc l))
+
+  pub first-none : (n : ℕ) → any p n ≡ false → first p n ≡ n
+  unfolding first
+  first-none zero a = refl
+  first-none (suc n) a = rw (none-at (suc n) n a (omega arith), none-from n (λ i l. none-at (suc n) i a (omega arith)))
+
+  -- what was found
+  pub first-found : (n : ℕ) → any p n ≡ true → (first p n < n) × (p (first p n) ≡ true)
+  unfolding first any
+  first-found zero a = both a refl
+  first-found (suc n) a = by-test (any p n)
+      (λ y. let ih = first-found n y in rw y (omega (arith, ih .0), ih .1))
+      (λ m. by-test (p n) (λ h. rw (m, h) (omega arith, h)) (λ h. both a (rw (m, h))))
+
+  -- the test by which code tells whether a search found something
+  pub first-below : (n : ℕ) → ltb (first p n) n ≡ any p n
+  first-below n = by-test (any p n)
+      (λ y. lt-ltb _ _ (first-found n y .0) ∙ sym y)
+      (λ m. le-ltb (first p n) n (omega (arith, first-none n m)) ∙ sym m)
+
+  pub found-if : (n : ℕ) → first p n < n → any p n ≡ true
+  found-if n h = sym (first-below n) ∙ lt-ltb _ _ h
+
+  pub missing-if : (n : ℕ) → n ≤ first p n → any p n ≡ false
+  missing-if n h = sym (first-below n) ∙ le-ltb _ _ h
+
+-- the invariants of a search and of a test of every index, and what a turn, a return and the end make of them
+abbrev pub Searching : (ℕ → Bool) → ℕ → ℕ → Type 0
+Searching p n i = (i ≤ n) × (any p i ≡ false)
+
+abbrev pub Passing : (ℕ → Bool) → ℕ → ℕ → Type 0
+Passing p n i = (i ≤ n) × (all p i ≡ true)
+
+module _ (p : ℕ → Bool) (n : ℕ) where
+  pub search-starts : Searching p n 0
+  unfolding any
+  search-starts = (omega arith, refl)
+
+  pub search-on : {i : ℕ} → Searching p n i → i < n → p i ≡ false → Searching p n (i + 1)
+  unfolding any
+  search-on {i} s l h = (omega arith, rw (add-one, s .1, h))
+
+  pub search-hit : {i : ℕ} → Searching p n i → i < n → p i ≡ true → i ≡ first p n
+  search-hit {i} s l h = sym (first-hit p n i l (s .1) h)
+
+  pub search-ends : {i : ℕ} → Searching p n i → n ≤ i → n ≡ first p n
+  search-ends {i} s g = sym (first-none p n (subst (λ (k : ℕ). any p k ≡ false) (le-antisymm (s .0) g) (s .1)))
+
+  pub pass-starts : Passing p n 0
+  unfolding all
+  pass-starts = (omega arith, refl)
+
+  pub pass-on : {i : ℕ} → Passing p n i → i < n → p i ≡ true → Passing p n (i + 1)
+  unfolding all
+  pass-on {i} s l h = (omega arith, rw (add-one, s .1, h))
+
+  pub pass-breaks : {i : ℕ} → i < n → p i ≡ false → false ≡ all p n
+  pass-breaks {i} l h = sym (all-breaks p n i l h)
+
+  pub pass-ends : {i : ℕ} → Passing p n i → n ≤ i → true ≡ all p n
+  pass-ends {i} s g = sym (subst (λ (k : ℕ). all p k ≡ true) (le-antisymm (s .0) g) (s .1))

@@ -1,0 +1,6 @@
+pub mod BoolLaws
+pub mod IndexLaws
+pub mod BuildLaws
+pub mod RowLaws
+pub mod NumberLaws
+pub mod OutcomeLaws

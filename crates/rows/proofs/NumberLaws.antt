@@ -1,0 +1,60 @@
+-- The laws of specs/Numbers.antt: bytes and the number in them, both ways, over the width.
+use Prim.Native.Nat.{ℕ, zero, suc, _+_, _*_, _/_, _%_, _^_, _≤_, _<_}
+use native.Mathlib.Omega.{arith}
+use native.Mathlib.Nat.{pow-suc, pow-succ', mul-assoc, add-zero}
+use mathlib.Core.Path.{_≡_, refl, sym, ap, _∙_}
+use mathlib.Core.List.{List, [], _∷_, _++_}
+use lib.Dec.{lit<}
+use lib.ListN.{length, drop, getD, length-drop}
+use lib.Seq.{take-add, drop-drop, length-take-le}
+use Rattle.rows.specs.Words.{build}
+use Rattle.rows.specs.Rows.{part}
+use Rattle.rows.specs.Numbers.{lowFirst, lowBytes}
+use Rattle.rows.proofs.BuildLaws.{build-list}
+use Rattle.rows.proofs.RowLaws.{length-part, getD-part}
+
+pub length-lowBytes : (n x : ℕ) → length (lowBytes n x) ≡ n
+unfolding lowBytes
+length-lowBytes zero x = refl
+length-lowBytes (suc n) x = ap suc (length-lowBytes n (x / 256))
+
+-- a number that fits n bytes reads back
+pub low-back : (n x : ℕ) → x < 256 ^ n → lowFirst (lowBytes n x) ≡ x
+unfolding lowFirst lowBytes
+low-back zero x h = omega arith
+low-back (suc n) x h =
+    let ih = low-back n (x / 256) (omega (arith, pow-suc 256 n)) in
+    omega (arith, ih)
+
+-- bytes are written again as they were read
+pub bytes-back : (l : List ℕ) → ((i : ℕ) → getD l i 0 < 256) → lowBytes (length l) (lowFirst l) ≡ l
+unfolding lowFirst lowBytes
+bytes-back [] h = refl
+bytes-back (b ∷ bs) h =
+    let small : b < 256 = h 0 in
+    let low : (b + 256 * lowFirst bs) % 256 ≡ b = omega arith in
+    let high : (b + 256 * lowFirst bs) / 256 ≡ lowFirst bs = omega arith in
+    rw (low, high, bytes-back bs (λ i. h (suc i)))
+
+-- the number in one part and a further one
+low-append : (a b : List ℕ) → lowFirst (a ++ b) ≡ lowFirst a + 256 ^ length a * lowFirst b
+unfolding lowFirst
+low-append [] b = omega arith
+low-append (x ∷ a) b = rw (low-append a b, pow-succ') (omega (arith, mul-assoc 256 (256 ^ length a) (lowFirst b)))
+
+-- the number in two bytes, and in four
+module _ (l : List ℕ) (at : ℕ) where
+  pub two-bytes : at + 2 ≤ length l → part l at 2 ≡ getD l at 0 ∷ getD l (at + 1) 0 ∷ []
+  unfolding build
+  two-bytes h =
+      sym (build-list (part l at 2) 2 (length-part l at 2 h))
+      ∙ rw (getD-part l at 2 0 (lit< tt), getD-part l at 2 1 (lit< tt), add-zero)
+
+  pub two-low : at + 2 ≤ length l → lowFirst (part l at 2) ≡ getD l at 0 + 256 * getD l (at + 1) 0
+  unfolding lowFirst
+  two-low h = rw (two-bytes h) (omega arith)
+
+  pub four-low : at + 4 ≤ length l → lowFirst (part l at 4) ≡ lowFirst (part l at 2) + 65536 * lowFirst (part l (at + 2) 2)
+  unfolding part
+  four-low h =
+      rw (take-add 2 2 (drop at l), low-append, drop-drop, length-take-le 2 (drop at l) (simp length-drop (omega arith)))

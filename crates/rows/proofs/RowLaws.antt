@@ -1,0 +1,163 @@
+-- The laws of specs/Rows.antt: a part of lent bytes after a part was put down. Over the place, the width w and the number of rows n.
+use Prim.Native.Nat.{ℕ, zero, suc, _+_, _-_, _*_, _≤_, _<_}
+use native.Mathlib.Nat.{not-suc-le-zero, mul-suc, mul-le-mul-left, le-of-suc-le-suc, eq-or-lt-of-le}
+use native.Mathlib.Numerals.{add-one}
+use native.Mathlib.Omega.{arith}
+use mathlib.Core.Path.{_≡_, refl, sym, ap, _∙_, subst}
+use mathlib.Core.Logic.{_⊎_, inl, inr, ⊎-elim}
+use mathlib.Core.List.{List, _++_, append-nil, append-assoc}
+use lib.ListN.{length, take, drop, getD, length-append, length-take, length-drop, take-append-drop, drop-of-length-le, List·getD-append}
+use lib.Seq.{ext-getD, getD-take, getD-drop, getD-append-add, length-take-le, take-at, drop-at, take-length, drop-drop}
+use borrow.Author.Tests.{ltb-true, ltb-false}
+use lib.Dec.{ltb}
+use Rattle.rows.proofs.BoolLaws.{by-test}
+use Rattle.rows.specs.Rows.{part, put, over, row, setRow, eachRow}
+
+pub getD-right : (xs ys : List ℕ) (k : ℕ) → length xs ≤ k → getD (xs ++ ys) k 0 ≡ getD ys (k - length xs) 0
+getD-right xs ys k h =
+    let e : k ≡ length xs + (k - length xs) = omega arith in
+    ap (λ (m : ℕ). getD (xs ++ ys) m 0) e ∙ getD-append-add xs ys (k - length xs) 0
+
+-- a part that lies in the list: its length, its bytes, and what follows it
+module _ (l : List ℕ) (at n : ℕ) where
+  pub length-part : at + n ≤ length l → length (part l at n) ≡ n
+  unfolding part
+  length-part h = simp (length-take, length-drop) (omega arith)
+
+  pub getD-part : (k : ℕ) → k < n → getD (part l at n) k 0 ≡ getD l (at + k) 0
+  unfolding part
+  getD-part k h = rw (getD-take, getD-drop)
+
+  pub part-rest : part l at n ++ drop (at + n) l ≡ drop at l
+  unfolding part
+  part-rest = rw (← drop-drop) (take-append-drop n (drop at l))
+
+-- all of p copied over bytes that are no more
+pub copied-over : (p d : List ℕ) → length d ≤ length p → take (length p) p ++ drop (length p) d ≡ p
+copied-over p d h = rw (take-length, drop-of-length-le d h) (append-nil p)
+
+-- a part of l copied over bytes that are no more
+pub copied-part : (l : List ℕ) (at n : ℕ) (p d : List ℕ) → at + n ≤ length l → p ≡ part l at n → length d ≤ n → take (length p) p ++ drop (length p) d ≡ part l at n
+copied-part l at n p d fits e h = copied-over p d (omega (arith, ap length e, length-part l at n fits)) ∙ e
+
+-- a part put down
+module _ (l : List ℕ) (at : ℕ) (p : List ℕ) (fits : at + length p ≤ length l) where
+  pub length-put : length (put l at p) ≡ length l
+  unfolding put
+  length-put = simp (length-append, length-take, length-drop) (omega arith)
+
+  head-long : length (take at l) ≡ at
+  head-long = length-take-le at l (omega arith)
+
+  pub part-put : part (put l at p) at (length p) ≡ p
+  unfolding part put
+  part-put =
+      ap (take (length p)) (drop-at (take at l) (p ++ drop (length p) (drop at l)) at head-long)
+      ∙ take-at p (drop (length p) (drop at l)) (length p) refl
+
+  -- a byte before it, and one after it
+  before : (k : ℕ) → k < at → getD (put l at p) k 0 ≡ getD l k 0
+  unfolding put
+  before k h = List·getD-append (take at l) _ 0 k (rw head-long h) ∙ getD-take at l k 0 h
+
+  after : (k : ℕ) → at + length p ≤ k → getD (put l at p) k 0 ≡ getD l k 0
+  unfolding put
+  after k h =
+      getD-right (take at l) (p ++ drop (length p) (drop at l)) k (omega (arith, head-long))
+      ∙ getD-right p (drop (length p) (drop at l)) (k - length (take at l)) (omega (arith, head-long))
+      ∙ getD-drop (length p) (drop at l) (k - length (take at l) - length p) 0
+      ∙ getD-drop at l (length p + (k - length (take at l) - length p)) 0
+      ∙ ap (λ (m : ℕ). getD l m 0) (omega (arith, head-long))
+
+  pub part-put-apart : (b n : ℕ) → (b + n ≤ at) ⊎ (at + length p ≤ b) → part (put l at p) b n ≡ part l b n
+  unfolding part
+  part-put-apart b n apart = ext-getD 0 _ _
+      (simp (length-take, length-drop, length-put))
+      (λ k h.
+      let lt : k < n = omega (arith, simp length-take at h) in
+      rw (getD-take n (drop b (put l at p)) k 0 lt, getD-take n (drop b l) k 0 lt, getD-drop, getD-drop)
+      (⊎-elim (λ lo. before (b + k) (omega arith)) (λ hi. after (b + k) (omega arith)) apart))
+
+-- a part put back where it stands
+pub put-part : (l : List ℕ) (at n : ℕ) → at + n ≤ length l → put l at (part l at n) ≡ l
+unfolding put part
+put-part l at n h =
+    let long : length (take n (drop at l)) ≡ n = simp (length-take, length-drop) (omega arith) in
+    rw (long, take-append-drop) (take-append-drop at l)
+
+-- what was put down so far, over the front of the bytes: its begin, and one more part
+pub over-first : (l p : List ℕ) → put l 0 p ≡ over p l
+unfolding put
+over-first l p = refl
+
+pub over-next : (l p q : List ℕ) (at : ℕ) → length p ≡ at → at + length q ≤ length l → put (over p l) at q ≡ over (p ++ q) l
+unfolding put
+over-next l p q at h fits =
+    rw (take-at p (drop (length p) l) at h, drop-at p (drop (length p) l) at h, drop-drop, length-append)
+    (sym (append-assoc p q (drop (length p + length q) l)))
+
+pub length-over : (l p : List ℕ) → length p ≤ length l → length (over p l) ≡ length l
+length-over l p h = simp (length-append, length-drop) (omega arith)
+
+-- row i ends at or before row n
+pub row-end : (w : ℕ) {i n : ℕ} → i < n → w * i + w ≤ w * n
+row-end w {i} {n} l = subst (λ (k : ℕ). k ≤ w * n) (mul-suc w i) (mul-le-mul-left w l)
+
+-- two rows lie apart
+rows-apart : (w : ℕ) {i j : ℕ} → (j ≡ i → ⊥) → (w * j + w ≤ w * i) ⊎ (w * i + w ≤ w * j)
+rows-apart w {i} {j} ne = by-test (ltb j i)
+    (λ y. inl (row-end w (ltb-true j i y)))
+    (λ m. let b : i < j = omega (arith, ltb-false j i m) in inr (row-end w b))
+
+-- a row set in a table of n rows
+module _ (w n : ℕ) (t : List ℕ) (sized : length t ≡ w * n) where
+  pub length-row : (i : ℕ) → i < n → length (row w t i) ≡ w
+  length-row i l = length-part t (w * i) w (omega (arith, row-end w l))
+
+  module _ (i : ℕ) (l : i < n) (r : List ℕ) (full : length r ≡ w) where
+    inside : w * i + length r ≤ length t
+    inside = omega (arith, row-end w l)
+
+    pub length-setRow : length (setRow w t i r) ≡ length t
+    length-setRow = length-put t (w * i) r inside
+
+    pub row-setRow : row w (setRow w t i r) i ≡ r
+    row-setRow = ap (part (setRow w t i r) (w * i)) (sym full) ∙ part-put t (w * i) r inside
+
+    pub row-setRow-other : (j : ℕ) → (j ≡ i → ⊥) → row w (setRow w t i r) j ≡ row w t j
+    row-setRow-other j ne = part-put-apart t (w * i) r inside (w * j) w
+        (⊎-elim (λ lo. inl lo) (λ hi. inr (omega arith)) (rows-apart w ne))
+
+-- a loop that does f to each row: its begin and a turn
+pub eachRow-none : (w : ℕ) (f : List ℕ → List ℕ) (t : List ℕ) → t ≡ eachRow w f 0 t
+unfolding eachRow
+eachRow-none w f t = refl
+
+pub eachRow-more : (w : ℕ) (f : List ℕ → List ℕ) (i : ℕ) (t : List ℕ) → eachRow w f (i + 1) t ≡ setRow w (eachRow w f i t) i (f (row w t i))
+unfolding eachRow
+eachRow-more w f i t = rw add-one
+
+-- f done to each row: every row is f of what it was
+module _ (w : ℕ) (f : List ℕ → List ℕ) (keeps : (r : List ℕ) → length r ≡ w → length (f r) ≡ w) (n : ℕ) (t : List ℕ) (sized : length t ≡ w * n) where
+  pub length-eachRow : (m : ℕ) → m ≤ n → length (eachRow w f m t) ≡ w * n
+  unfolding eachRow
+  length-eachRow zero h = sized
+  length-eachRow (suc m) h =
+      length-setRow w n (eachRow w f m t) (length-eachRow m (omega arith)) m h (f (row w t m)) (keeps _ (length-row w n t sized m h))
+      ∙ length-eachRow m (omega arith)
+
+  pub row-eachRow-out : (m j : ℕ) → m ≤ j → j < n → row w (eachRow w f m t) j ≡ row w t j
+  unfolding eachRow
+  row-eachRow-out zero j h l = refl
+  row-eachRow-out (suc m) j h l =
+      row-setRow-other w n (eachRow w f m t) (length-eachRow m (omega arith)) m (omega arith) (f (row w t m)) (keeps _ (length-row w n t sized m (omega arith))) j (omega arith)
+      ∙ row-eachRow-out m j (omega arith) l
+
+  pub row-eachRow : (m j : ℕ) → m ≤ n → j < m → row w (eachRow w f m t) j ≡ f (row w t j)
+  unfolding eachRow
+  row-eachRow zero j h l = absurd (not-suc-le-zero l)
+  row-eachRow (suc m) j h l = ⊎-elim
+      (λ e. rw e (row-setRow w n (eachRow w f m t) (length-eachRow m (omega arith)) m h (f (row w t m)) (keeps _ (length-row w n t sized m h))))
+      (λ lt. row-setRow-other w n (eachRow w f m t) (length-eachRow m (omega arith)) m h (f (row w t m)) (keeps _ (length-row w n t sized m h)) j (omega arith)
+      ∙ row-eachRow m j (omega arith) lt)
+      (eq-or-lt-of-le (le-of-suc-le-suc l))

@@ -1,0 +1,34 @@
+-- Words over indices and lists: what holds at all, at some, first; a list by its elements; equal lists.
+use Prim.Native.Nat.{ℕ, zero, suc}
+use mathlib.Core.Bool.{Bool, true, false, cond, _&&_, _||_}
+use mathlib.Core.List.{List, [], _∷_, _++_}
+use lib.Dec.{eqb}
+use lib.ListN.{length, getD}
+
+-- p holds at every index below n
+unfoldable pub all : (ℕ → Bool) → ℕ → Bool
+all p zero = true
+all p (suc n) = all p n && p n
+
+-- p holds at some index below n
+unfoldable pub any : (ℕ → Bool) → ℕ → Bool
+any p zero = false
+any p (suc n) = any p n || p n
+
+-- the least index below n at which p holds, or n where there is none
+unfoldable pub first : (ℕ → Bool) → ℕ → ℕ
+first p zero = zero
+first p (suc n) = cond (any p n) (first p n) (cond (p n) n (suc n))
+
+-- the list of f 0, f 1, .., f (n - 1)
+unfoldable pub build : (ℕ → ℕ) → ℕ → List ℕ
+build f zero = []
+build f (suc n) = build f n ++ (f n ∷ [])
+
+-- a and b have the same byte at k
+unfoldable pub sameAt : List ℕ → List ℕ → ℕ → Bool
+sameAt a b k = eqb (getD a k 0) (getD b k 0)
+
+-- a and b are as long as each other and the same byte by byte
+unfoldable pub same : List ℕ → List ℕ → Bool
+same a b = eqb (length a) (length b) && all (sameAt a b) (length a)

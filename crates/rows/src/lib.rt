@@ -1,0 +1,106 @@
+// Rows of fixed width in lent bytes: the words that the other crates' rules are written in (specs/), the laws of those
+// words (proofs/), and the few functions that read and write a part. No function here knows what the bytes mean.
+ghost use mathlib.Core.Path.{_≡_};
+ghost use Prim.Native.Nat.{_+_, _≤_, _<_};
+ghost use lib.ListN.{length};
+ghost use Rattle.rows.specs.Words.{same};
+ghost use Rattle.rows.specs.Rows.{part as partOf, put as putIn};
+ghost use Rattle.rows.specs.Numbers.{lowFirst};
+ghost use Rattle.rows.specs.Outcomes.{Gives};
+
+// The n bytes of s that begin at `at`.
+pub fn part(s: &[u8], at: usize, n: usize) -> &[u8]
+    requires { ⌜ at + n ≤ length (now s) ⌝ }
+    ensures { λ r. ⌜ now r ≡ partOf (now (s .entry)) at n ⌝ }
+{
+    &s[at..at + n]
+}
+
+// Puts p down in s, from `at` on.
+pub fn put(s: &mut [u8], at: usize, p: &[u8])
+    requires { ⌜ at + length (now p) ≤ length (now s) ⌝ }
+    ensures { λ _. ⌜ now (s .exit) ≡ putIn (now (s .entry)) at (now (p .entry)) ⌝ }
+{
+    let end = at + p.len();
+    bytes::copy(p, &mut s[at..end]);
+}
+
+// Two slices are as long as each other and the same byte by byte.
+pub fn is_same(a: &[u8], b: &[u8]) -> bool
+    ensures { λ r. ⌜ Gives (same (now (a .entry)) (now (b .entry))) r ⌝ }
+{
+    if a.len() != b.len() {
+        return false;
+    }
+    let mut k: usize = 0;
+    while k < a.len() {
+        if a[k] != b[k] {
+            return false;
+        }
+        k += 1;
+    }
+    true
+}
+
+fn wide(b: u8) -> u32
+    ensures { λ r. ⌜ (r ≡ b) × (r < 256) ⌝ }
+{
+    b as u32
+}
+
+// The number in two bytes, low byte first.
+pub fn two_at(s: &[u8], at: usize) -> u16
+    requires { ⌜ at + 2 ≤ length (now s) ⌝ }
+    ensures { λ r. ⌜ r ≡ lowFirst (partOf (now (s .entry)) at 2) ⌝ }
+{
+    let low = wide(s[at]);
+    let high = wide(s[at + 1]);
+    (low + 256 * high) as u16
+}
+
+// The number in four bytes, low byte first.
+pub fn four_at(s: &[u8], at: usize) -> u32
+    requires { ⌜ at + 4 ≤ length (now s) ⌝ }
+    ensures { λ r. ⌜ r ≡ lowFirst (partOf (now (s .entry)) at 4) ⌝ }
+{
+    let low = two_at(s, at) as u32;
+    let high = two_at(s, at + 2) as u32;
+    low + 65536 * high
+}
+
+// Parts of four, six, eight and thirteen bytes, by value.
+pub fn four_of(s: &[u8], at: usize) -> [u8; 4]
+    requires { ⌜ at + 4 ≤ length (now s) ⌝ }
+    ensures { λ r. ⌜ r ≡ partOf (now (s .entry)) at 4 ⌝ }
+{
+    let mut r = [0u8; 4];
+    bytes::copy(part(s, at, 4), &mut r);
+    r
+}
+
+pub fn six_of(s: &[u8], at: usize) -> [u8; 6]
+    requires { ⌜ at + 6 ≤ length (now s) ⌝ }
+    ensures { λ r. ⌜ r ≡ partOf (now (s .entry)) at 6 ⌝ }
+{
+    let mut r = [0u8; 6];
+    bytes::copy(part(s, at, 6), &mut r);
+    r
+}
+
+pub fn eight_of(s: &[u8], at: usize) -> [u8; 8]
+    requires { ⌜ at + 8 ≤ length (now s) ⌝ }
+    ensures { λ r. ⌜ r ≡ partOf (now (s .entry)) at 8 ⌝ }
+{
+    let mut r = [0u8; 8];
+    bytes::copy(part(s, at, 8), &mut r);
+    r
+}
+
+pub fn thirteen_of(s: &[u8], at: usize) -> [u8; 13]
+    requires { ⌜ at + 13 ≤ length (now s) ⌝ }
+    ensures { λ r. ⌜ r ≡ partOf (now (s .entry)) at 13 ⌝ }
+{
+    let mut r = [0u8; 13];
+    bytes::copy(part(s, at, 13), &mut r);
+    r
+}

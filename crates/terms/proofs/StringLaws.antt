@@ -1,0 +1,73 @@
+-- The laws of lock strings. Two strings are the same exactly when their normal forms are equal.
+use Prim.Native.Nat.{ℕ, min, _≤_}
+use native.Mathlib.Omega.{arith}
+use mathlib.Core.Path.{_≡_, refl, sym, ap, _∙_}
+use mathlib.Core.Bool.{true}
+use lib.Dec.{eqb, leb}
+use lib.ListN.{length, take, drop, replicate, length-take}
+use lib.Seq.{take-at, take-all}
+use borrow.Author.Tests.{eqb-true, eq-eqb, leb-true, leb-false}
+use Rattle.rows.proofs.BoolLaws.{by-test, and-left, and-right, and-both}
+use Rattle.rows.proofs.BuildLaws.{same-is, same-refl}
+use Rattle.rows.specs.Words.{same}
+use Rattle.rows.specs.Rows.{over}
+use Rattle.terms.specs.declared.LockString.{LockString}
+use Rattle.terms.specs.Strings.{legal, key, sameString, normal}
+
+-- a legal length
+pub legal-len : (s : LockString) → legal s ≡ true → (1 ≤ s .len) × (s .len ≤ 13)
+unfolding legal
+legal-len s l =
+    (leb-true 1 (s .len) (and-left (leb 1 (s .len)) (leb (s .len) 13) l), leb-true (s .len) 13 (and-right (leb 1 (s .len)) (leb (s .len) 13) l))
+
+-- how long the first length bytes are
+pub length-key : (s : LockString) → length (key s) ≡ min (s .len) (length (s .bytes))
+unfolding key
+length-key s = length-take (s .len) (s .bytes)
+
+-- the first length bytes, where no more than thirteen are asked for
+pub key-used : (s : LockString) → length (s .bytes) ≡ 13 → take (min (s .len) 13) (s .bytes) ≡ key s
+unfolding key
+key-used s full = by-test (leb (s .len) 13)
+    (λ y. let short : min (s .len) 13 ≡ s .len = omega (arith, leb-true (s .len) 13 y) in ap (λ (n : ℕ). take n (s .bytes)) short)
+    (λ n. take-all (min (s .len) 13) (s .bytes) (omega (arith, leb-false (s .len) 13 n)) ∙ sym (take-all (s .len) (s .bytes) (omega (arith, leb-false (s .len) 13 n))))
+
+-- sameness as a fact
+pub record Same (a b : LockString) : Type 0 where
+  pub long : a .len ≡ b .len
+  pub keys : key a ≡ key b
+
+pub same-string-is : (a b : LockString) → sameString a b ≡ true → Same a b
+unfolding sameString
+same-string-is a b h = record {
+  long = eqb-true _ _ (and-left (eqb (a .len) (b .len)) (same (key a) (key b)) h);
+  keys = same-is _ _ (and-right (eqb (a .len) (b .len)) (same (key a) (key b)) h);
+}
+
+pub is-same-string : (a b : LockString) → Same a b → sameString a b ≡ true
+unfolding sameString
+is-same-string a b e = and-both (eq-eqb _ _ (e .long)) (rw (e .keys) (same-refl (key b)))
+
+pub same-string-refl : (a : LockString) → sameString a a ≡ true
+same-string-refl a = is-same-string a a (record { long = refl; keys = refl })
+
+-- the same strings have one normal form
+pub same-normal : (a b : LockString) → sameString a b ≡ true → normal a ≡ normal b
+unfolding normal
+same-normal a b h =
+    let e = same-string-is a b h in
+    λ i. record { len = e .long i; bytes = over (e .keys i) (replicate 13 0) }
+
+-- and strings with one normal form are the same
+pub normal-same : (a b : LockString) → length (a .bytes) ≡ 13 → length (b .bytes) ≡ 13 → normal a ≡ normal b → sameString a b ≡ true
+unfolding normal
+normal-same a b fa fb e = is-same-string a b (record { long = long; keys = keys })
+  where
+    long : a .len ≡ b .len
+    long = ap (λ (s : LockString). s .len) e
+
+    keys : key a ≡ key b
+    keys =
+        sym (take-at (key a) (drop (length (key a)) (replicate 13 0)) (length (key a)) refl)
+        ∙ ap (λ (s : LockString). take (length (key a)) (s .bytes)) e
+        ∙ take-at (key b) (drop (length (key b)) (replicate 13 0)) (length (key a)) (length-key b ∙ sym (length-key a ∙ rw (long, fa, fb)))

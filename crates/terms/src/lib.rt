@@ -1,0 +1,76 @@
+// The terms of the rules as types. Volume, partition, track and sector are four types, so that none can be passed where
+// another is due. A lock string travels by value, as thirteen bytes beside its length.
+ghost use mathlib.Core.Path.{_≡_};
+ghost use Prim.Native.Nat.{min};
+ghost use Rattle.rows.specs.Outcomes.{Gives};
+ghost use Rattle.terms.specs.Strings.{legal, sameString, normal as normalOf};
+
+pub struct Volume(pub u8);
+
+pub struct Partition(pub u8);
+
+pub struct Track(pub u16);
+
+pub struct Sector(pub u8);
+
+// Where a station asks to read or write.
+pub struct Address {
+    pub volume: Volume,
+    pub partition: Partition,
+    pub track: Track,
+    pub sector: Sector,
+}
+
+// Where that is on the drive: a sector of the volume, counted from 0.
+pub struct Place {
+    pub volume: Volume,
+    pub sector: u32,
+}
+
+pub struct LockString {
+    pub len: u8,
+    pub bytes: [u8; 13],
+}
+
+// How many of the thirteen bytes belong to the string.
+fn used(len: u8) -> usize
+    ensures { λ r. ⌜ r ≡ min len 13 ⌝ }
+{
+    if len < 13 { len as usize } else { 13 }
+}
+
+// The length is 1 to 13.
+pub fn is_legal(s: LockString) -> bool
+    ensures { λ r. ⌜ Gives (legal s) r ⌝ }
+{
+    let len = s.len;
+    if len < 1 {
+        return false;
+    }
+    len <= 13
+}
+
+// The two are one string: what stands after the length does not count.
+pub fn same_string(a: LockString, b: LockString) -> bool
+    ensures { λ r. ⌜ Gives (sameString a b) r ⌝ }
+{
+    if a.len != b.len {
+        return false;
+    }
+    let n = used(a.len);
+    let x = a.bytes;
+    let y = b.bytes;
+    rows::is_same(&x[..n], &y[..n])
+}
+
+// The string with zeros after its length.
+pub fn normal(s: LockString) -> LockString
+    ensures { λ r. ⌜ Gives (normalOf s) r ⌝ }
+{
+    let len = s.len;
+    let n = used(len);
+    let from = s.bytes;
+    let mut bytes = [0u8; 13];
+    rows::put(&mut bytes, 0, &from[..n]);
+    LockString { len, bytes }
+}
