@@ -35,6 +35,11 @@ pub and-fails : (a b : Bool) → b ≡ false → (a && b) ≡ false
 and-fails true b f = f
 and-fails false b f = refl
 
+-- a test that cannot hold
+pub refuted : (b : Bool) → (b ≡ true → ⊥) → false ≡ b
+refuted true f = absurd (f refl)
+refuted false f = refl
+
 -- a test that holds where another does, and one that fails where another does
 pub contra : (a b : Bool) → (a ≡ true → b ≡ true) → b ≡ false → a ≡ false
 contra a b f n = by-test a (λ y. both (f y) n) (λ m. m)

@@ -5,9 +5,9 @@ use native.Mathlib.Numerals.{add-one}
 use native.Mathlib.Omega.{arith}
 use mathlib.Core.Path.{_≡_, refl, sym, ap, _∙_, subst}
 use mathlib.Core.Logic.{⊎-elim}
-use mathlib.Core.Bool.{Bool, true, false, _||_}
-use lib.Dec.{ltb}
-use borrow.Author.Tests.{lt-ltb, le-ltb}
+use mathlib.Core.Bool.{Bool, true, false, not, _||_}
+use lib.Dec.{leb, ltb}
+use borrow.Author.Tests.{lt-ltb, le-ltb, le-leb, lt-leb}
 use Rattle.rows.proofs.BoolLaws.{by-test, both, and-fails}
 use Rattle.rows.specs.Words.{all, any, first}
 
@@ -85,6 +85,11 @@ module _ (p : ℕ → Bool) where
 
   pub missing-if : (n : ℕ) → n ≤ first p n → any p n ≡ false
   missing-if n h = sym (first-below n) ∙ le-ltb _ _ h
+
+  pub first-misses : (n : ℕ) → leb n (first p n) ≡ not (any p n)
+  first-misses n = by-test (any p n)
+      (λ y. lt-leb n _ (first-found n y .0) ∙ sym (ap not y))
+      (λ m. le-leb n (first p n) (omega (arith, first-none n m)) ∙ sym (ap not m))
 
 -- the invariants of a search and of a test of every index, and what a turn, a return and the end make of them
 abbrev pub Searching : (ℕ → Bool) → ℕ → ℕ → Type 0

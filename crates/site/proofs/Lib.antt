@@ -1,0 +1,4 @@
+pub mod RuleLaws
+pub mod NameLaws
+pub mod PlaceLaws
+pub mod TwoSectors

@@ -1,0 +1,109 @@
+// Searches over the rows of a site file, each a loop that ends at the first row that fits.
+use crate::PartitionRow;
+use crate::layout;
+use crate::sizes;
+use terms::Partition;
+use terms::Volume;
+ghost use mathlib.Core.Path.{_≡_};
+ghost use mathlib.Core.Bool.{true};
+ghost use Prim.Native.Nat.{ℕ, _+_, _*_, _≤_, _<_};
+ghost use lib.ListN.{length};
+ghost use Rattle.rows.specs.Words.{first};
+ghost use Rattle.site.specs.Layout.{partitionsFrom, partitionRow};
+ghost use Rattle.site.specs.Rules.{sameName, namedAt, ranged, meet, partitionNumbered, partitionsOverlap};
+
+// Two names are equal.
+fn same_name(a: &[u8], b: &[u8]) -> bool
+    ensures { λ r. ⌜ r ≡ sameName (now (a .entry)) (now (b .entry)) ⌝ }
+{
+    rows::is_same(a, b)
+}
+
+// The first of n rows of w bytes, where the rows begin at `from`, with this name; or n.
+pub fn find_name(file: &[u8], from: usize, w: usize, n: usize, name: &[u8]) -> usize
+    requires { ⌜ (from + w * n ≤ length (now file)) × (8 ≤ w) ⌝ }
+    ensures { λ r. ⌜ r ≡ first (namedAt (now (file .entry)) from w (now (name .entry))) n ⌝ }
+{
+    let mut i: usize = 0;
+    while i < n {
+        if same_name(layout::name_at(file, from, w, i), name) {
+            return i;
+        }
+        i += 1;
+    }
+    n
+}
+
+// Partition row i has this volume and number. The partition rows begin at `from`, here and below.
+fn is_numbered(file: &[u8], from: usize, i: usize, volume: Volume, partition: Partition) -> bool
+    requires { ⌜ (from ≡ partitionsFrom (now file)) × (from + 24 * i + 24 ≤ length (now file)) ⌝ }
+    ensures { λ r. ⌜ r ≡ partitionNumbered (now (file .entry)) volume partition i ⌝ }
+{
+    let at = from + layout::PARTITION * i;
+    if file[at + 14] != volume.0 {
+        return false;
+    }
+    file[at + 15] == partition.0
+}
+
+// The first of n partition rows with this volume and number, or n.
+pub fn find_number(
+    file: &[u8],
+    from: usize,
+    n: usize,
+    volume: Volume,
+    partition: Partition,
+) -> usize
+    requires { ⌜ (from ≡ partitionsFrom (now file)) × (from + 24 * n ≤ length (now file)) ⌝ }
+    ensures { λ r. ⌜ r ≡ first (partitionNumbered (now (file .entry)) volume partition) n ⌝ }
+{
+    let mut i: usize = 0;
+    while i < n {
+        if is_numbered(file, from, i, volume, partition) {
+            return i;
+        }
+        i += 1;
+    }
+    n
+}
+
+// Each row begins before the other ends.
+fn rows_meet(r: PartitionRow, s: PartitionRow) -> bool
+    requires { ⌜ (ranged r ≡ true) × (ranged s ≡ true) ⌝ }
+    ensures { λ b. ⌜ b ≡ meet r s ⌝ }
+{
+    if s.first + sizes::sectors(s.size) <= r.first {
+        return false;
+    }
+    s.first < r.first + sizes::sectors(r.size)
+}
+
+// Partition rows i and j are on one volume and overlap.
+fn rows_overlap(file: &[u8], from: usize, i: usize, j: usize) -> bool
+    requires { ⌜ (from ≡ partitionsFrom (now file)) × (from + 24 * i + 24 ≤ length (now file)) × (from + 24 * j + 24 ≤ length (now file)) ⌝ }
+    requires { ⌜ (ranged (partitionRow (now file) i) ≡ true) × (ranged (partitionRow (now file) j) ≡ true) ⌝ }
+    ensures { λ b. ⌜ b ≡ partitionsOverlap (now (file .entry)) i j ⌝ }
+{
+    let a = from + layout::PARTITION * i;
+    let b = from + layout::PARTITION * j;
+    if file[a + 14] != file[b + 14] {
+        return false;
+    }
+    rows_meet(layout::row_of(file, from, i), layout::row_of(file, from, j))
+}
+
+// The first of the rows before partition row i that it overlaps, or i.
+pub fn find_overlap(file: &[u8], from: usize, i: usize) -> usize
+    requires { ⌜ (from ≡ partitionsFrom (now file)) × (from + 24 * i + 24 ≤ length (now file)) ⌝ }
+    requires { ⌜ ((j : ℕ) → j ≤ i → ranged (partitionRow (now file) j) ≡ true) ⌝ }
+    ensures { λ r. ⌜ r ≡ first (partitionsOverlap (now (file .entry)) i) i ⌝ }
+{
+    let mut j: usize = 0;
+    while j < i {
+        if rows_overlap(file, from, i, j) {
+            return j;
+        }
+        j += 1;
+    }
+    i
+}
