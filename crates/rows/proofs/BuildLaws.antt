@@ -1,4 +1,4 @@
--- The laws of `build` and of `same`: lists by their elements.
+-- The laws of `build`, `same` and `zeros`: lists by their elements.
 use Prim.Native.Nat.{ℕ, zero, suc, _+_, _≤_, _<_}
 use native.Mathlib.Nat.{le-antisymm, le-of-suc-le-suc, not-suc-le-zero, eq-or-lt-of-le}
 use native.Mathlib.Numerals.{add-one}
@@ -8,12 +8,12 @@ use mathlib.Core.Logic.{⊎-elim}
 use mathlib.Core.Bool.{true}
 use mathlib.Core.List.{List, [], _∷_, _++_, append-nil}
 use lib.Dec.{eqb}
-use lib.ListN.{length, drop, getD, set, length-append, List·getD-append, drop-of-length-le}
+use lib.ListN.{length, drop, getD, set, replicate, length-append, length-replicate, getD-replicate, List·getD-append, drop-of-length-le}
 use lib.Seq.{drop-cons, set-at, append-snoc, ext-getD, getD-at}
 use borrow.Author.Tests.{eqb-true, eq-eqb}
 use Rattle.rows.proofs.BoolLaws.{and-left, and-right, and-both}
 use Rattle.rows.proofs.IndexLaws.{all-at, all-from}
-use Rattle.rows.specs.Words.{all, build, sameAt, same}
+use Rattle.rows.specs.Words.{all, build, sameAt, same, zeroAt, zeros}
 
 module _ (f : ℕ → ℕ) where
   pub length-build : (n : ℕ) → length (build f n) ≡ n
@@ -61,3 +61,14 @@ same-is a b h = ext-getD 0 a b
 pub same-refl : (a : List ℕ) → same a a ≡ true
 unfolding same sameAt
 same-refl a = and-both (eq-eqb (length a) (length a) refl) (all-from (sameAt a a) (length a) (λ i l. eq-eqb (getD a i 0) (getD a i 0) refl))
+
+-- zeros are a list of zeros
+pub zeros-is : (l : List ℕ) → zeros l ≡ true → l ≡ replicate (length l) 0
+unfolding zeros zeroAt
+zeros-is l h = ext-getD 0 l (replicate (length l) 0) (sym (length-replicate (length l) 0))
+    (λ i b. eqb-true _ _ (all-at (zeroAt l) (length l) i h b) ∙ sym (getD-replicate (length l) i 0 0 b))
+
+pub is-zeros : (n : ℕ) → zeros (replicate n 0) ≡ true
+unfolding zeros zeroAt
+is-zeros n = all-from (zeroAt (replicate n 0)) (length (replicate n 0))
+    (λ i b. eq-eqb _ _ (getD-replicate n i 0 0 (rw length-replicate at b)))

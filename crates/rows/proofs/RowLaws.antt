@@ -75,7 +75,7 @@ module _ (l : List ℕ) (at : ℕ) (p : List ℕ) (fits : at + length p ≤ leng
       (simp (length-take, length-drop, length-put))
       (λ k h.
       let lt : k < n = omega (arith, simp length-take at h) in
-      rw (getD-take n (drop b (put l at p)) k 0 lt, getD-take n (drop b l) k 0 lt, getD-drop, getD-drop)
+      rw (getD-take n (drop b (put l at p)) k 0 lt, getD-take n (drop b l) k 0 lt, getD-drop b (put l at p) k 0, getD-drop b l k 0)
       (⊎-elim (λ lo. before (b + k) (omega arith)) (λ hi. after (b + k) (omega arith)) apart))
 
 -- a part put back where it stands

@@ -32,3 +32,10 @@ sameAt a b k = eqb (getD a k 0) (getD b k 0)
 -- a and b are as long as each other and the same byte by byte
 unfoldable pub same : List ℕ → List ℕ → Bool
 same a b = eqb (length a) (length b) && all (sameAt a b) (length a)
+
+-- every byte of l is zero
+unfoldable pub zeroAt : List ℕ → ℕ → Bool
+zeroAt l k = eqb (getD l k 0) 0
+
+unfoldable pub zeros : List ℕ → Bool
+zeros l = all (zeroAt l) (length l)

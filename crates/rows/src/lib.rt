@@ -3,7 +3,7 @@
 ghost use mathlib.Core.Path.{_≡_};
 ghost use Prim.Native.Nat.{_+_, _≤_, _<_};
 ghost use lib.ListN.{length};
-ghost use Rattle.rows.specs.Words.{same};
+ghost use Rattle.rows.specs.Words.{same, zeros};
 ghost use Rattle.rows.specs.Rows.{part as partOf, put as putIn};
 ghost use Rattle.rows.specs.Numbers.{lowFirst};
 ghost use Rattle.rows.specs.Outcomes.{Gives};
@@ -35,6 +35,20 @@ pub fn is_same(a: &[u8], b: &[u8]) -> bool
     let mut k: usize = 0;
     while k < a.len() {
         if a[k] != b[k] {
+            return false;
+        }
+        k += 1;
+    }
+    true
+}
+
+// Every byte is zero.
+pub fn is_zero(s: &[u8]) -> bool
+    ensures { λ r. ⌜ Gives (zeros (now (s .entry))) r ⌝ }
+{
+    let mut k: usize = 0;
+    while k < s.len() {
+        if s[k] != 0 {
             return false;
         }
         k += 1;

@@ -2,13 +2,13 @@
 use Prim.Native.Nat.{ℕ, _+_, _≤_, _<_}
 use mathlib.Core.Path.{_≡_}
 use mathlib.Core.Bool.{true, _&&_}
-use mathlib.Core.List.{List, [], _∷_}
+use mathlib.Core.List.{List}
 use lib.Dec.{eqb, leb}
 use lib.ListN.{length}
 use borrow.Author.Tests.{eqb-true, leb-true}
 use Rattle.rows.proofs.BoolLaws.{and-left, and-right}
 use Rattle.rows.proofs.IndexLaws.{all-at}
-use Rattle.rows.specs.Words.{all, same}
+use Rattle.rows.specs.Words.{all, zeros}
 use Rattle.site.specs.declared.PartitionRow.{PartitionRow}
 use Rattle.site.specs.Layout.{users, userOffset, partitions, partitionOffset, usersFrom, partitionsFrom, wholeLength, partitionRow, partitionSpare}
 use Rattle.site.specs.Rules.{goodHeader, nameAlone, goodUser, sectors, ranged, sound, numberAlone, apart, goodPartition, goodSite}
@@ -74,7 +74,7 @@ pub record Kept (f : List ℕ) (i : ℕ) : Type 0 where
 
 pub sound-ranged : (f : List ℕ) (i : ℕ) → sound f i ≡ true → ranged (partitionRow f i) ≡ true
 unfolding sound
-sound-ranged f i h = and-left (ranged (partitionRow f i)) (same (partitionSpare f i) (0 ∷ 0 ∷ [])) h
+sound-ranged f i h = and-left (ranged (partitionRow f i)) (zeros (partitionSpare f i)) h
 
 pub kept : (f : List ℕ) (i : ℕ) → goodPartition f i ≡ true → Kept f i
 unfolding goodPartition

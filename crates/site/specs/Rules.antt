@@ -1,10 +1,10 @@
 -- The rules of a site file. Any breach is refusal 10.
 use Prim.Native.Nat.{ℕ, _+_, _-_, _*_, _^_}
 use mathlib.Core.Bool.{Bool, not, _&&_}
-use mathlib.Core.List.{List, [], _∷_}
+use mathlib.Core.List.{List}
 use lib.Dec.{eqb, leb, ltb}
 use lib.ListN.{length}
-use Rattle.rows.specs.Words.{all, any, same}
+use Rattle.rows.specs.Words.{all, any, same, zeros}
 use Rattle.terms.specs.declared.Volume.{Volume}
 use Rattle.terms.specs.declared.Partition.{Partition}
 use Rattle.site.specs.declared.PartitionRow.{PartitionRow}
@@ -81,7 +81,7 @@ partitionsOverlap f i j = overlap (partitionRow f i) (partitionRow f j)
 
 -- the row by itself: in range, and two zero bytes
 unfoldable pub sound : List ℕ → ℕ → Bool
-sound f i = ranged (partitionRow f i) && same (partitionSpare f i) (0 ∷ 0 ∷ [])
+sound f i = ranged (partitionRow f i) && zeros (partitionSpare f i)
 
 -- no two on one volume overlap
 unfoldable pub apart : List ℕ → ℕ → Bool

@@ -5,10 +5,9 @@ use crate::search;
 use crate::sizes;
 ghost use mathlib.Core.Path.{_≡_};
 ghost use mathlib.Core.Bool.{true};
-ghost use mathlib.Core.List.{[], _∷_};
 ghost use Prim.Native.Nat.{ℕ, _+_, _*_, _≤_, _<_};
 ghost use lib.ListN.{length};
-ghost use Rattle.rows.specs.Words.{all, same};
+ghost use Rattle.rows.specs.Words.{all, zeros};
 ghost use Rattle.site.specs.Layout.{users, partitions, partitionsFrom, wholeLength, spareAt, partitionRow};
 ghost use Rattle.site.specs.Rules.{goodHeader, nameAlone, goodUser, ranged, sound, numberAlone, goodPartition};
 
@@ -83,10 +82,9 @@ fn row_ranged(r: PartitionRow) -> bool
 // The two spare bytes of the row that begins at `at` are zero.
 fn spare_zero(file: &[u8], at: usize) -> bool
     requires { ⌜ at + 24 ≤ length (now file) ⌝ }
-    ensures { λ b. ⌜ b ≡ same (spareAt (now (file .entry)) at) (0 ∷ 0 ∷ []) ⌝ }
+    ensures { λ b. ⌜ b ≡ zeros (spareAt (now (file .entry)) at) ⌝ }
 {
-    let zeros = [0u8; 2];
-    rows::is_same(rows::part(file, at + 22, 2), &zeros)
+    rows::is_zero(rows::part(file, at + 22, 2))
 }
 
 // Partition row i alone: its numbers and its spare bytes. The partition rows begin at `from`, here and below.
