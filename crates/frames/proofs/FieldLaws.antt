@@ -1,17 +1,16 @@
 -- The fields of a frame: those that were written read back, and those that were read are written as they stood.
-use Prim.Native.Nat.{ℕ, zero, suc, _+_, _≤_, _<_}
+use Prim.Native.Nat.{ℕ, suc, _+_, _≤_, _<_}
 use native.Mathlib.Omega.{arith}
 use mathlib.Core.Path.{_≡_, refl, sym, ap, _∙_}
 use mathlib.Core.List.{List, [], _∷_, _++_, append-assoc}
-use lib.Dec.{lit<}
 use lib.ListN.{length, drop, getD, length-append, length-drop, drop-of-length-le}
-use lib.Seq.{take-at, drop-at, getD-at, take-all, drop-cons}
+use lib.Seq.{getD-at, take-all, drop-cons}
 use Rattle.rows.proofs.BuildLaws.{build-list}
-use Rattle.rows.proofs.RowLaws.{part-rest}
-use Rattle.rows.proofs.NumberLaws.{low-back, bytes-back, two-bytes}
+use Rattle.rows.proofs.RowLaws.{part-rest, part-mid, part-end}
+use Rattle.rows.proofs.NumberLaws.{Bytes, low-back, part-back, two-bytes}
 use Rattle.rows.specs.Words.{build}
 use Rattle.rows.specs.Rows.{part}
-use Rattle.rows.specs.Numbers.{lowFirst, lowBytes}
+use Rattle.rows.specs.Numbers.{lowBytes}
 use Rattle.terms.specs.declared.Address.{Address}
 use Rattle.terms.specs.declared.LockString.{LockString}
 use Rattle.frames.specs.declared.Request.{Request}
@@ -22,16 +21,6 @@ use Rattle.frames.specs.Requests.{plain, carriedBy}
 use Rattle.frames.specs.Reading.{code, addressIn, namedIn, loginIn, stringIn, requestIn}
 use Rattle.frames.specs.Writing.{addressFields, namedFields, loginFields, stringFields, codeOf, fieldsOf}
 use Rattle.frames.proofs.WriteLaws.{Sized}
-
--- a part behind what stands before it, with a rest behind it and without
-module _ (a p : List ℕ) (at n : ℕ) (start : length a ≡ at) (full : length p ≡ n) where
-  part-mid : (r : List ℕ) → part (a ++ (p ++ r)) at n ≡ p
-  unfolding part
-  part-mid r = rw (drop-at a (p ++ r) at start) (take-at p r n full)
-
-  part-end : part (a ++ p) at n ≡ p
-  unfolding part
-  part-end = rw (drop-at a p at start) (take-all n p (omega arith))
 
 -- a track is a number of two bytes
 abbrev pub TrackFits : Command → Type 0
@@ -78,10 +67,6 @@ fields-read Unlock q s t = rw (string-reads UNLOCK (q .string) (s .string))
 fields-read Clear q s t = refl
 fields-read (Logout src) q s t = refl
 
--- every element is a byte
-abbrev pub Bytes : List ℕ → Type 0
-Bytes f = (i : ℕ) → getD f i 0 < 256
-
 -- a part that reaches to the end, and the last byte
 part-last : (f : List ℕ) (at n : ℕ) → length f ≡ at + n → part f at n ≡ drop at f
 unfolding part
@@ -89,15 +74,6 @@ part-last f at n h = take-all n (drop at f) (simp length-drop (omega arith))
 
 byte-last : (f : List ℕ) (at : ℕ) → length f ≡ at + 1 → getD f at 0 ∷ [] ≡ drop at f
 byte-last f at h = sym (drop-cons f at 0 (omega arith) ∙ rw (drop-of-length-le f {i = suc at} (omega arith)))
-
--- the number in two bytes stands in the same two bytes
-two-back : (f : List ℕ) (at : ℕ) → Bytes f → at + 2 ≤ length f → lowBytes 2 (lowFirst (part f at 2)) ≡ getD f at 0 ∷ getD f (at + 1) 0 ∷ []
-two-back f at b h = rw (two-bytes f at h) (bytes-back (getD f at 0 ∷ getD f (at + 1) 0 ∷ []) small)
-  where
-    small : Bytes (getD f at 0 ∷ getD f (at + 1) 0 ∷ [])
-    small zero = b at
-    small (suc zero) = b (at + 1)
-    small (suc (suc i)) = lit< tt
 
 -- the fields of a frame with the code k are written again as they stood
 module _ (f : List ℕ) {k : ℕ} (e : code f ≡ k) where
@@ -112,7 +88,7 @@ module _ (f : List ℕ) {k : ℕ} (e : code f ≡ k) where
 
   pub address-again : Bytes f → length f ≡ 8 → getD f 1 0 ≡ 0 → k ∷ addressFields (getD f 2 0) (addressIn f) ≡ f
   unfolding addressFields addressIn build
-  address-again b h dtn = rw (two-back f 4 b (omega arith), ← e) (rw dtn at (build-list f 8 h))
+  address-again b h dtn = rw (part-back f 4 2 b (omega arith), two-bytes f 4 (omega arith), ← e) (rw dtn at (build-list f 8 h))
 
   pub named-again : length f ≡ 15 → k ∷ (part f 1 8 ++ part f 9 6) ≡ f
   named-again h = rw (part-last f 9 6 h, part-rest f 1 8) (first-again (omega arith))

@@ -24,7 +24,8 @@ use Rattle.frames.proofs.TableLaws.{Code, acknowledge, read, write, log
 use Rattle.frames.proofs.ReadLaws.{well-is, is-well, well-long}
 pub use Rattle.frames.proofs.WriteLaws.{Sized}
 use Rattle.frames.proofs.WriteLaws.{frame-long, dtn-zero, carried-written}
-pub use Rattle.frames.proofs.FieldLaws.{TrackFits, Bytes}
+pub use Rattle.rows.proofs.NumberLaws.{Bytes}
+pub use Rattle.frames.proofs.FieldLaws.{TrackFits}
 use Rattle.frames.proofs.FieldLaws.{fields-read, none-again, byte-again, address-again, named-again, login-again, string-again}
 
 -- what the language's types say of every request

@@ -1,6 +1,6 @@
 // The frame table: the code of each command, and the length of its frame.
 ghost use Rattle.rows.specs.Outcomes.{Gives};
-ghost use Rattle.frames.specs.Table.{frameLength};
+ghost use Rattle.frames.specs.Table.{frameLength, carriesAddress};
 
 pub const ACKNOWLEDGE: u8 = 0x41;
 
@@ -36,4 +36,14 @@ pub fn frame_length(code: u8) -> usize
         LOGOUT => 2,
         _ => 0,
     }
+}
+
+// The command's fields are dtn, src and an address: a read or a write.
+pub fn has_address(code: u8) -> bool
+    ensures { λ r. ⌜ Gives (carriesAddress code) r ⌝ }
+{
+    if code == READ {
+        return true;
+    }
+    code == WRITE
 }

@@ -12,18 +12,7 @@ ghost use mathlib.Core.Path.{_≡_};
 ghost use Prim.Native.Nat.{_≤_};
 ghost use lib.ListN.{length};
 ghost use Rattle.frames.specs.Requests.{plain as plainOf};
-ghost use Rattle.frames.specs.Table.{carriesAddress};
 ghost use Rattle.frames.specs.Reading.{refusalOf, addressIn, namedIn, loginIn, stringIn, requestIn};
-
-// A read or a write.
-fn has_address(code: u8) -> bool
-    ensures { λ r. ⌜ r ≡ carriesAddress code ⌝ }
-{
-    if code == code::READ {
-        return true;
-    }
-    code == code::WRITE
-}
 
 pub fn refusal_of(frame: &[u8]) -> u8
     ensures { λ r. ⌜ r ≡ refusalOf (now (frame .entry)) ⌝ }
@@ -39,7 +28,7 @@ pub fn refusal_of(frame: &[u8]) -> u8
     if frame.len() != n {
         return 4;
     }
-    if !has_address(code) {
+    if !code::has_address(code) {
         return 0;
     }
     if frame[1] == 0 { 0 } else { 6 }

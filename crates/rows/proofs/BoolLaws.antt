@@ -1,7 +1,7 @@
 -- A test and what it tells.
 use Prim.Native.Nat.{ℕ}
 use mathlib.Core.Path.{_≡_, refl, sym, _∙_}
-use mathlib.Core.Bool.{Bool, true, false, _&&_, true≢false}
+use mathlib.Core.Bool.{Bool, true, false, _&&_, _||_, true≢false}
 use lib.Dec.{eqb}
 use borrow.Author.Tests.{eqb-true, eqb-false}
 
@@ -29,6 +29,15 @@ and-right false b h = both h refl
 
 pub and-both : {a b : Bool} → a ≡ true → b ≡ true → (a && b) ≡ true
 and-both x y = rw (x, y)
+
+-- the other part of a disjunction
+pub or-rest : (a b : Bool) → (a || b) ≡ true → a ≡ false → b ≡ true
+or-rest true b h f = both refl f
+or-rest false b h f = h
+
+pub or-from : (a b : Bool) → (a ≡ false → b ≡ true) → (a || b) ≡ true
+or-from true b f = refl
+or-from false b f = f refl
 
 -- a conjunction with a part that fails
 pub and-fails : (a b : Bool) → b ≡ false → (a && b) ≡ false

@@ -4,9 +4,11 @@ use native.Mathlib.Omega.{arith}
 use native.Mathlib.Nat.{pow-suc, pow-succ', mul-assoc, add-zero}
 use mathlib.Core.Path.{_≡_, refl, sym, ap, _∙_}
 use mathlib.Core.List.{List, [], _∷_, _++_}
-use lib.Dec.{lit<}
-use lib.ListN.{length, drop, getD, length-drop}
+use lib.Dec.{ltb, lit<}
+use lib.ListN.{length, drop, getD, length-drop, List·getD-eq-default}
 use lib.Seq.{take-add, drop-drop, length-take-le}
+use borrow.Author.Tests.{ltb-true, ltb-false}
+use Rattle.rows.proofs.BoolLaws.{by-test}
 use Rattle.rows.specs.Words.{build}
 use Rattle.rows.specs.Rows.{part}
 use Rattle.rows.specs.Numbers.{lowFirst, lowBytes}
@@ -35,6 +37,20 @@ bytes-back (b ∷ bs) h =
     let low : (b + 256 * lowFirst bs) % 256 ≡ b = omega arith in
     let high : (b + 256 * lowFirst bs) / 256 ≡ lowFirst bs = omega arith in
     rw (low, high, bytes-back bs (λ i. h (suc i)))
+
+-- every element is a byte
+abbrev pub Bytes : List ℕ → Type 0
+Bytes l = (i : ℕ) → getD l i 0 < 256
+
+-- the number in a part stands in the bytes of that part
+pub part-back : (l : List ℕ) (at n : ℕ) → Bytes l → at + n ≤ length l → lowBytes n (lowFirst (part l at n)) ≡ part l at n
+part-back l at n b h =
+    ap (λ (k : ℕ). lowBytes k (lowFirst (part l at n))) (sym (length-part l at n h)) ∙ bytes-back (part l at n) small
+  where
+    small : Bytes (part l at n)
+    small i = by-test (ltb i n)
+        (λ y. rw (getD-part l at n i (ltb-true i n y)) (b (at + i)))
+        (λ f. rw (List·getD-eq-default (part l at n) 0 {n = i} (omega (arith, length-part l at n h, ltb-false i n f))) (lit< tt))
 
 -- the number in one part and a further one
 low-append : (a b : List ℕ) → lowFirst (a ++ b) ≡ lowFirst a + 256 ^ length a * lowFirst b

@@ -1,17 +1,17 @@
 -- The laws of specs/Rows.antt: a part of lent bytes after a part was put down. Over the place, the width w and the number of rows n.
 use Prim.Native.Nat.{ℕ, zero, suc, _+_, _-_, _*_, _≤_, _<_}
-use native.Mathlib.Nat.{not-suc-le-zero, mul-suc, mul-le-mul-left, le-of-suc-le-suc, eq-or-lt-of-le}
+use native.Mathlib.Nat.{not-suc-le-zero, add-assoc, mul-suc, mul-le-mul-left, le-of-suc-le-suc, eq-or-lt-of-le}
 use native.Mathlib.Numerals.{add-one}
 use native.Mathlib.Omega.{arith}
 use mathlib.Core.Path.{_≡_, refl, sym, ap, _∙_, subst}
 use mathlib.Core.Logic.{_⊎_, inl, inr, ⊎-elim}
 use mathlib.Core.List.{List, _++_, append-nil, append-assoc}
 use lib.ListN.{length, take, drop, getD, length-append, length-take, length-drop, take-append-drop, drop-of-length-le, List·getD-append}
-use lib.Seq.{ext-getD, getD-take, getD-drop, getD-append-add, length-take-le, take-at, drop-at, take-length, drop-drop}
+use lib.Seq.{ext-getD, getD-take, getD-drop, getD-append-add, length-take-le, take-at, drop-at, take-all, take-length, drop-drop}
 use borrow.Author.Tests.{ltb-true, ltb-false}
 use lib.Dec.{ltb}
 use Rattle.rows.proofs.BoolLaws.{by-test}
-use Rattle.rows.specs.Rows.{part, put, over, row, setRow, eachRow}
+use Rattle.rows.specs.Rows.{part, put, over, copies, row, setRow, eachRow}
 
 pub getD-right : (xs ys : List ℕ) (k : ℕ) → length xs ≤ k → getD (xs ++ ys) k 0 ≡ getD ys (k - length xs) 0
 getD-right xs ys k h =
@@ -31,6 +31,26 @@ module _ (l : List ℕ) (at n : ℕ) where
   pub part-rest : part l at n ++ drop (at + n) l ≡ drop at l
   unfolding part
   part-rest = rw (← drop-drop) (take-append-drop n (drop at l))
+
+-- a part behind what stands before it, with a rest behind it and without
+module _ (a p : List ℕ) (at n : ℕ) (start : length a ≡ at) (full : length p ≡ n) where
+  pub part-mid : (r : List ℕ) → part (a ++ (p ++ r)) at n ≡ p
+  unfolding part
+  part-mid r = rw (drop-at a (p ++ r) at start) (take-at p r n full)
+
+  pub part-end : part (a ++ p) at n ≡ p
+  unfolding part
+  part-end = rw (drop-at a p at start) (take-all n p (omega arith))
+
+-- a part of a part
+pub part-part : (l : List ℕ) (at n a m : ℕ) → a + m ≤ n → part (part l at n) a m ≡ part l (at + a) m
+unfolding part
+part-part l at n a m h = ext-getD 0 _ _
+    (simp (length-take, length-drop) (omega arith))
+    (λ k b.
+    let lt : k < m = omega (arith, simp length-take at b) in
+    rw (getD-take m (drop a (take n (drop at l))) k 0 lt, getD-drop a (take n (drop at l)) k 0, getD-take n (drop at l) (a + k) 0 (omega arith), getD-drop at l (a + k) 0)
+    (rw (getD-take m (drop (at + a) l) k 0 lt, getD-drop (at + a) l k 0, add-assoc at a k)))
 
 -- all of p copied over bytes that are no more
 pub copied-over : (p d : List ℕ) → length d ≤ length p → take (length p) p ++ drop (length p) d ≡ p
@@ -99,9 +119,25 @@ over-next l p q at h fits =
 pub length-over : (l p : List ℕ) → length p ≤ length l → length (over p l) ≡ length l
 length-over l p h = simp (length-append, length-drop) (omega arith)
 
+-- r put down n times
+pub length-copies : (n : ℕ) (r : List ℕ) → length (copies n r) ≡ length r * n
+unfolding copies
+length-copies zero r = omega arith
+length-copies (suc n) r = simp (length-append, length-copies n r, mul-suc)
+
+pub copies-none : (l r : List ℕ) → l ≡ over (copies 0 r) l
+unfolding copies
+copies-none l r = refl
+
 -- row i ends at or before row n
 pub row-end : (w : ℕ) {i n : ℕ} → i < n → w * i + w ≤ w * n
 row-end w {i} {n} l = subst (λ (k : ℕ). k ≤ w * n) (mul-suc w i) (mul-le-mul-left w l)
+
+-- r put down once more
+pub copies-more : (l r : List ℕ) (i n : ℕ) → i < n → length r * n ≤ length l → put (over (copies i r) l) (length r * i) r ≡ over (copies (i + 1) r) l
+unfolding copies
+copies-more l r i n b h =
+    rw add-one (over-next l (copies i r) r (length r * i) (length-copies i r) (omega (arith, row-end (length r) b)))
 
 -- two rows lie apart
 rows-apart : (w : ℕ) {i j : ℕ} → (j ≡ i → ⊥) → (w * j + w ≤ w * i) ⊎ (w * i + w ≤ w * j)
@@ -110,7 +146,7 @@ rows-apart w {i} {j} ne = by-test (ltb j i)
     (λ m. let b : i < j = omega (arith, ltb-false j i m) in inr (row-end w b))
 
 -- a row set in a table of n rows
-module _ (w n : ℕ) (t : List ℕ) (sized : length t ≡ w * n) where
+module _ (w n : ℕ) (t : List ℕ) (sized : w * n ≤ length t) where
   pub length-row : (i : ℕ) → i < n → length (row w t i) ≡ w
   length-row i l = length-part t (w * i) w (omega (arith, row-end w l))
 
@@ -138,26 +174,29 @@ unfolding eachRow
 eachRow-more w f i t = rw add-one
 
 -- f done to each row: every row is f of what it was
-module _ (w : ℕ) (f : List ℕ → List ℕ) (keeps : (r : List ℕ) → length r ≡ w → length (f r) ≡ w) (n : ℕ) (t : List ℕ) (sized : length t ≡ w * n) where
-  pub length-eachRow : (m : ℕ) → m ≤ n → length (eachRow w f m t) ≡ w * n
+module _ (w : ℕ) (f : List ℕ → List ℕ) (keeps : (r : List ℕ) → length r ≡ w → length (f r) ≡ w) (n : ℕ) (t : List ℕ) (sized : w * n ≤ length t) where
+  pub length-eachRow : (m : ℕ) → m ≤ n → length (eachRow w f m t) ≡ length t
   unfolding eachRow
-  length-eachRow zero h = sized
+  length-eachRow zero h = refl
   length-eachRow (suc m) h =
-      length-setRow w n (eachRow w f m t) (length-eachRow m (omega arith)) m h (f (row w t m)) (keeps _ (length-row w n t sized m h))
-      ∙ length-eachRow m (omega arith)
+      let ih = length-eachRow m (omega arith) in
+      length-setRow w n (eachRow w f m t) (omega (arith, ih)) m h (f (row w t m)) (keeps _ (length-row w n t sized m h)) ∙ ih
+
+  still-sized : (m : ℕ) → m ≤ n → w * n ≤ length (eachRow w f m t)
+  still-sized m h = omega (arith, length-eachRow m h)
 
   pub row-eachRow-out : (m j : ℕ) → m ≤ j → j < n → row w (eachRow w f m t) j ≡ row w t j
   unfolding eachRow
   row-eachRow-out zero j h l = refl
   row-eachRow-out (suc m) j h l =
-      row-setRow-other w n (eachRow w f m t) (length-eachRow m (omega arith)) m (omega arith) (f (row w t m)) (keeps _ (length-row w n t sized m (omega arith))) j (omega arith)
+      row-setRow-other w n (eachRow w f m t) (still-sized m (omega arith)) m (omega arith) (f (row w t m)) (keeps _ (length-row w n t sized m (omega arith))) j (omega arith)
       ∙ row-eachRow-out m j (omega arith) l
 
   pub row-eachRow : (m j : ℕ) → m ≤ n → j < m → row w (eachRow w f m t) j ≡ f (row w t j)
   unfolding eachRow
   row-eachRow zero j h l = absurd (not-suc-le-zero l)
   row-eachRow (suc m) j h l = ⊎-elim
-      (λ e. rw e (row-setRow w n (eachRow w f m t) (length-eachRow m (omega arith)) m h (f (row w t m)) (keeps _ (length-row w n t sized m h))))
-      (λ lt. row-setRow-other w n (eachRow w f m t) (length-eachRow m (omega arith)) m h (f (row w t m)) (keeps _ (length-row w n t sized m h)) j (omega arith)
+      (λ e. rw e (row-setRow w n (eachRow w f m t) (still-sized m (omega arith)) m h (f (row w t m)) (keeps _ (length-row w n t sized m h))))
+      (λ lt. row-setRow-other w n (eachRow w f m t) (still-sized m (omega arith)) m h (f (row w t m)) (keeps _ (length-row w n t sized m h)) j (omega arith)
       ∙ row-eachRow m j (omega arith) lt)
       (eq-or-lt-of-le (le-of-suc-le-suc l))

@@ -1,6 +1,6 @@
 -- Lent bytes: a part of them, a part put down, and the same for rows of w bytes each.
 use Prim.Native.Nat.{ℕ, zero, suc, _*_}
-use mathlib.Core.List.{List, _++_}
+use mathlib.Core.List.{List, [], _++_}
 use lib.ListN.{length, take, drop}
 
 -- the n bytes of l that begin at `at`
@@ -22,6 +22,11 @@ row w t i = part t (w * i) w
 -- t with r as its row i
 abbrev pub setRow : ℕ → List ℕ → ℕ → List ℕ → List ℕ
 setRow w t i r = put t (w * i) r
+
+-- r again and again, n times
+unfoldable pub copies : ℕ → List ℕ → List ℕ
+copies zero r = []
+copies (suc n) r = copies n r ++ r
 
 -- t with f done to each of its first n rows
 unfoldable pub eachRow : ℕ → (List ℕ → List ℕ) → ℕ → List ℕ → List ℕ

@@ -1,10 +1,10 @@
 // Rows of fixed width in lent bytes: the words that the other crates' rules are written in (specs/), the laws of those
 // words (proofs/), and the few functions that read and write a part. No function here knows what the bytes mean.
 ghost use mathlib.Core.Path.{_≡_};
-ghost use Prim.Native.Nat.{_+_, _≤_, _<_};
+ghost use Prim.Native.Nat.{_+_, _*_, _≤_, _<_};
 ghost use lib.ListN.{length};
 ghost use Rattle.rows.specs.Words.{same, zeros};
-ghost use Rattle.rows.specs.Rows.{part as partOf, put as putIn};
+ghost use Rattle.rows.specs.Rows.{part as partOf, put as putIn, over, copies};
 ghost use Rattle.rows.specs.Numbers.{lowFirst};
 ghost use Rattle.rows.specs.Outcomes.{Gives};
 
@@ -23,6 +23,18 @@ pub fn put(s: &mut [u8], at: usize, p: &[u8])
 {
     let end = at + p.len();
     bytes::copy(p, &mut s[at..end]);
+}
+
+// Puts r down n times, one after the other, at the start of s.
+pub fn fill(s: &mut [u8], n: usize, r: &[u8])
+    requires { ⌜ length (now r) * n ≤ length (now s) ⌝ }
+    ensures { λ _. ⌜ now (s .exit) ≡ over (copies n (now (r .entry))) (now (s .entry)) ⌝ }
+{
+    let mut i: usize = 0;
+    while i < n {
+        put(s, r.len() * i, r);
+        i += 1;
+    }
 }
 
 // Two slices are as long as each other and the same byte by byte.

@@ -41,11 +41,11 @@ returns-4 c = let table = c .before .before .before .before .frame-length .ensur
     sym (is-well f (record {
       known = λ e. omega (arith, table);
       long = omega (arith, table);
-      dtn = λ y. both y (sym (c .before .has-address .ensures) ∙ not-true _ (c .if4 .taken));
+      dtn = λ y. both y (sym (c .before .has-address .ensures .answer) ∙ not-true _ (c .if4 .taken));
     }))
 
 shared-slice-read-if5 : tie.Need-shared-slice-read-if5
-shared-slice-read-if5 c = omega (arith, c .before .before .before .before .before .frame-length .ensures .answer, address-long _ (sym (c .before .before .has-address .ensures) ∙ not-false _ (c .before .if4 .left)))
+shared-slice-read-if5 c = omega (arith, c .before .before .before .before .before .frame-length .ensures .answer, address-long _ (sym (c .before .before .has-address .ensures .answer) ∙ not-false _ (c .before .if4 .left)))
 
 returns-5 : tie.Need-returns-5
 returns-5 c = let table = c .before .before .before .before .before .before .frame-length .ensures .answer in
@@ -60,7 +60,7 @@ returns-6 : tie.Need-returns-6
 unfolding refusalOf
 returns-6 c = let table = c .before .before .before .before .before .before .frame-length .ensures .answer in
     let f = now (c .before .before .before .before .before .before .before .before .before .before .args .frame) in
-    let address = sym (c .before .before .before .has-address .ensures) ∙ not-false _ (c .before .before .if4 .left) in
+    let address = sym (c .before .before .before .has-address .ensures .answer) ∙ not-false _ (c .before .before .if4 .left) in
     rw (ne-eqb _ _ (c .before .before .before .before .before .before .before .before .if1 .left), ne-eqb (frameLength (code f)) 0 (λ e. omega (arith, table)), eq-eqb (length f) (frameLength (code f)) (omega (arith, table)), address, ne-eqb _ 0 (c .if5 .left))
 
 pub refusal-of-spec : {M : Type 1} → statement M

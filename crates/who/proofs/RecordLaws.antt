@@ -1,0 +1,216 @@
+-- The laws of one station record: its rules as facts, and its two forms, the struct and the 18 bytes, each from the other.
+use Prim.Native.Nat.{ℕ, _+_, _≤_, _<_}
+use native.Mathlib.Omega.{arith}
+use mathlib.Core.Path.{_≡_, refl, sym, _∙_}
+use mathlib.Core.Bool.{Bool, true, false, _&&_, _||_}
+use mathlib.Core.List.{List, [], _∷_, _++_, append-assoc, append-nil}
+use lib.Dec.{eqb, leb, lit≤}
+use lib.ListN.{length, drop, getD, length-append, drop-of-length-le}
+use lib.Seq.{getD-append-add, drop-cons}
+use borrow.Author.Tests.{leb-true, le-leb, lt-leb, leb-false, eqb-true, eqb-false, eq-eqb, ne-eqb}
+use Rattle.rows.proofs.BoolLaws.{by-test, and-left, and-right, and-both, or-rest, or-from}
+use Rattle.rows.proofs.RowLaws.{part-rest, part-mid, over-first, over-next}
+use Rattle.rows.proofs.NumberLaws.{length-lowBytes, low-back, part-back, two-bytes}
+use Rattle.rows.specs.Words.{all, zeros, zeroAt}
+use Rattle.rows.specs.Rows.{part, put}
+use Rattle.rows.specs.Numbers.{lowFirst, lowBytes}
+use Rattle.who.specs.declared.Station.{Station}
+use Rattle.who.specs.Records.{flag, bytesOf, stationOf, nobody, localUser}
+use Rattle.who.specs.Good.{goodCounts, goodRecord}
+use Rattle.who.specs.Logins.{loggedInAs}
+
+-- misses and slow turns in range
+pub record Counts (misses slow : ℕ) : Type 0 where
+  pub few : misses ≤ 255
+  pub short : slow ≤ 11
+  pub early : misses < 160 → slow ≡ 0
+
+module _ (misses slow : ℕ) where
+  pub counts-is : goodCounts misses slow ≡ true → Counts misses slow
+  unfolding goodCounts
+  counts-is h =
+      let m = leb misses 255 in
+      let s = leb slow 11 in
+      let e = leb 160 misses || eqb slow 0 in
+      let h₁ = and-right m (s && e) h in record {
+        few = leb-true _ _ (and-left m (s && e) h);
+        short = leb-true _ _ (and-left s e h₁);
+        early = λ l. eqb-true _ _ (or-rest (leb 160 misses) (eqb slow 0) (and-right s e h₁) (lt-leb 160 misses l));
+      }
+
+  pub is-counts : Counts misses slow → goodCounts misses slow ≡ true
+  unfolding goodCounts
+  is-counts c =
+      and-both (le-leb misses 255 (c .few))
+      (and-both (le-leb slow 11 (c .short))
+      (or-from (leb 160 misses) (eqb slow 0) (λ f. eq-eqb slow 0 (c .early (leb-false 160 misses f)))))
+
+-- a record that keeps the rules
+pub record Sound (r : List ℕ) : Type 0 where
+  pub logged : getD r 0 0 ≤ 1
+  pub found : getD r 17 0 ≤ 1
+  pub counts : Counts (lowFirst (part r 1 2)) (getD r 3 0)
+  pub out : getD r 0 0 ≡ 0 → zeros r ≡ true
+
+module _ (r : List ℕ) where
+  pub sound-is : goodRecord r ≡ true → Sound r
+  unfolding goodRecord
+  sound-is h =
+      let l = leb (getD r 0 0) 1 in
+      let f = leb (getD r 17 0) 1 in
+      let c = goodCounts (lowFirst (part r 1 2)) (getD r 3 0) in
+      let o = eqb (getD r 0 0) 1 || zeros r in
+      let h₁ = and-right l (f && (c && o)) h in
+      let h₂ = and-right f (c && o) h₁ in record {
+        logged = leb-true _ _ (and-left l (f && (c && o)) h);
+        found = leb-true _ _ (and-left f (c && o) h₁);
+        counts = counts-is _ _ (and-left c o h₂);
+        out = λ z. or-rest (eqb (getD r 0 0) 1) (zeros r) (and-right c o h₂) (ne-eqb (getD r 0 0) 1 (λ e. omega arith));
+      }
+
+  pub is-sound : Sound r → goodRecord r ≡ true
+  unfolding goodRecord
+  is-sound s =
+      and-both (le-leb (getD r 0 0) 1 (s .logged))
+      (and-both (le-leb (getD r 17 0) 1 (s .found))
+      (and-both (is-counts _ _ (s .counts))
+      (or-from (eqb (getD r 0 0) 1) (zeros r) (λ f. s .out (omega (arith, s .logged, eqb-false (getD r 0 0) 1 f))))))
+
+-- nobody and the local user keep the rules
+pub nobody-good : goodRecord nobody ≡ true
+unfolding goodRecord goodCounts lowFirst part zeros zeroAt all
+nobody-good = refl
+
+pub local-good : goodRecord localUser ≡ true
+unfolding goodRecord goodCounts lowFirst part zeros zeroAt all
+local-good = refl
+
+-- a flag is 0 or 1, reads back, and is written again as it was read
+flag-small : (b : Bool) → flag b ≤ 1
+unfolding flag
+flag-small true = lit≤ tt
+flag-small false = lit≤ tt
+
+pub flag-back : (b : Bool) → eqb (flag b) 1 ≡ b
+unfolding flag
+flag-back true = refl
+flag-back false = refl
+
+flag-again : (n : ℕ) → n ≤ 1 → flag (eqb n 1) ≡ n
+unfolding flag
+flag-again n h = by-test (eqb n 1)
+    (λ y. rw y (sym (eqb-true n 1 y)))
+    (λ f. rw f (omega (arith, eqb-false n 1 f)))
+
+-- four parts put down one after the other, as long together as what they are put into
+pub put-four : (l a b c d : List ℕ) (i j k : ℕ) → length a ≡ i → i + length b ≡ j → j + length c ≡ k → k + length d ≡ length l → put (put (put (put l 0 a) i b) j c) k d ≡ a ++ (b ++ (c ++ d))
+put-four l a b c d i j k x y z w =
+    rw (
+      over-first l a,
+      over-next l a b i x (omega arith),
+      over-next l (a ++ b) c j (length-append a b ∙ omega arith) (omega arith),
+      over-next l ((a ++ b) ++ c) d k (simp length-append (omega arith)) (omega arith),
+      drop-of-length-le l {i = length (((a ++ b) ++ c) ++ d)} (simp length-append (omega arith)),
+    )
+    (simp (append-assoc, append-nil))
+
+-- the fields of a station stand in its bytes
+module _ (s : Station) where
+  pub logged-bytesOf : getD (bytesOf s) 0 0 ≡ flag (s .logged)
+  unfolding bytesOf
+  logged-bytesOf = refl
+
+  misses-bytesOf : s .misses < 65536 → lowFirst (part (bytesOf s) 1 2) ≡ s .misses
+  unfolding bytesOf lowBytes part
+  misses-bytesOf fits = low-back 2 (s .misses) fits
+
+  slow-bytesOf : getD (bytesOf s) 3 0 ≡ s .slow
+  unfolding bytesOf lowBytes
+  slow-bytesOf = refl
+
+  -- the bytes before the name, and those after the serial
+  abbrev front : List ℕ
+  front = flag (s .logged) ∷ (lowBytes 2 (s .misses) ++ (s .slow ∷ []))
+
+  abbrev back : List ℕ
+  back = s .product ∷ flag (s .found) ∷ []
+
+  module _ (name : length (s .name) ≡ 8) (serial : length (s .serial) ≡ 4) where
+    pub length-bytesOf : length (bytesOf s) ≡ 18
+    unfolding bytesOf
+    length-bytesOf = simp (length-append, length-lowBytes) (omega arith)
+
+    name-bytesOf : part (bytesOf s) 4 8 ≡ s .name
+    unfolding bytesOf lowBytes
+    name-bytesOf = part-mid front (s .name) 4 8 refl name (s .serial ++ back)
+
+    serial-bytesOf : part (bytesOf s) 12 4 ≡ s .serial
+    unfolding bytesOf lowBytes
+    serial-bytesOf = part-mid (front ++ s .name) (s .serial) 12 4 (omega arith) serial back
+
+    back-bytesOf : (k : ℕ) → getD (bytesOf s) (16 + k) 0 ≡ getD back k 0
+    unfolding bytesOf lowBytes
+    back-bytesOf k =
+        let long : length ((front ++ s .name) ++ s .serial) ≡ 16 = simp length-append (omega arith) in
+        rw (← long, ← append-assoc (front ++ s .name) (s .serial) back) (getD-append-add ((front ++ s .name) ++ s .serial) back k 0)
+
+    -- a station reads back from its bytes
+    pub station-back : s .misses < 65536 → stationOf (bytesOf s) ≡ s
+    unfolding stationOf
+    station-back fits =
+        rw (
+          logged-bytesOf,
+          misses-bytesOf fits,
+          slow-bytesOf,
+          name-bytesOf,
+          serial-bytesOf,
+          back-bytesOf 0,
+          back-bytesOf 1,
+          flag-back (s .logged),
+          flag-back (s .found),
+        )
+
+    -- the record of a station that is logged in, with its counts in range
+    pub bytesOf-good : s .logged ≡ true → goodCounts (s .misses) (s .slow) ≡ true → goodRecord (bytesOf s) ≡ true
+    unfolding flag
+    bytesOf-good logged counts =
+        let k = counts-is (s .misses) (s .slow) counts in
+        let one : getD (bytesOf s) 0 0 ≡ 1 = logged-bytesOf ∙ rw logged in
+        is-sound (bytesOf s) (record {
+          logged = omega arith;
+          found = rw (back-bytesOf 1) (flag-small (s .found));
+          counts = rw (misses-bytesOf (omega (arith, k .few)), slow-bytesOf) k;
+          out = λ z. absurd (omega arith);
+        })
+
+-- the record of a login
+pub login-record-good : (name serial : List ℕ) (product : ℕ) (found : Bool) → length name ≡ 8 → length serial ≡ 4 → goodRecord (bytesOf (loggedInAs name serial product found)) ≡ true
+unfolding loggedInAs goodCounts
+login-record-good name serial product found n s = bytesOf-good (loggedInAs name serial product found) n s refl refl
+
+-- a good record is written again as it was read
+module _ (r : List ℕ) (full : length r ≡ 18) (bytes : (i : ℕ) → getD r i 0 < 256) where
+  misses-again : lowBytes 2 (lowFirst (part r 1 2)) ≡ part r 1 2
+  misses-again = part-back r 1 2 bytes (omega arith)
+
+  back-again : getD r 16 0 ∷ getD r 17 0 ∷ [] ≡ drop 16 r
+  back-again =
+      sym (two-bytes r 16 (omega arith))
+      ∙ sym (append-nil (part r 16 2))
+      ∙ rw (← drop-of-length-le r {i = 18} (omega arith)) (part-rest r 16 2)
+
+  pub bytes-again : goodRecord r ≡ true → bytesOf (stationOf r) ≡ r
+  unfolding bytesOf stationOf
+  bytes-again good =
+      let k = sound-is r good in
+      rw (
+        flag-again (getD r 0 0) (k .logged),
+        flag-again (getD r 17 0) (k .found),
+        misses-again,
+        back-again,
+        part-rest r 12 4,
+        part-rest r 4 8,
+        ← drop-cons r 3 0 (omega arith),
+        part-rest r 1 2,
+      )
+      (sym (drop-cons r 0 0 (omega arith)))

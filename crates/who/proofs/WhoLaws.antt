@@ -1,0 +1,246 @@
+-- The laws of the 64 records: their rules as facts, who is logged in, what a login and a logout change and what they leave, the lowest free number, and the fresh records.
+use Prim.Native.Nat.{ℕ, zero, suc, _+_, _*_, _/_, _≤_, _<_}
+use native.Mathlib.Nat.{add-zero, not-suc-le-zero}
+use native.Mathlib.Omega.{arith}
+use mathlib.Core.Path.{_≡_, refl, sym, ap, _∙_}
+use mathlib.Core.Bool.{Bool, true, false, not, cond, _&&_}
+use mathlib.Core.List.{List, _++_, append-nil, append-assoc}
+use lib.Dec.{eqb, leb, ltb, lit<}
+use lib.ListN.{length, drop, getD, length-drop, drop-of-length-le}
+use lib.Seq.{take-length, drop-at, take-append-le, drop-append-le}
+use borrow.Author.Tests.{eqb-true, eq-eqb, ne-eqb, ltb-true, ltb-false, lt-ltb, le-ltb, leb-true, le-leb, not-true, not-false}
+use Rattle.rows.proofs.BoolLaws.{by-test, by-eq, both, and-left, and-right, and-both}
+use Rattle.rows.proofs.IndexLaws.{all-at, all-from, none-at, first-found, first-none, found-if, missing-if}
+use Rattle.rows.proofs.BuildLaws.{same-is, same-refl}
+use Rattle.rows.proofs.RowLaws.{getD-part, over-first, length-copies, row-end, length-setRow, row-setRow, row-setRow-other}
+use Rattle.rows.specs.Words.{all, any, first, same}
+use Rattle.rows.specs.Rows.{part, put, over, copies, row, setRow}
+use Rattle.who.specs.declared.Station.{Station}
+use Rattle.who.specs.Records.{bytesOf, nobody, localUser}
+use Rattle.who.specs.Good.{goodCounts, goodRecord, goodAt, numbers, goodRecords}
+use Rattle.who.specs.Logins.{recordCount, loggedIn, freeNumber, lowestFree, afterLogin, afterLogout, freshRecords}
+use Rattle.who.proofs.RecordLaws.{nobody-good, local-good, flag-back, logged-bytesOf, length-bytesOf, bytesOf-good}
+
+-- records that keep the rules
+pub record Good (w : List ℕ) : Type 0 where
+  pub sized : length w ≡ 18 * numbers
+  pub local : row 18 w 0 ≡ localUser
+  pub each : (n : ℕ) → n < numbers → goodRecord (row 18 w n) ≡ true
+
+module _ (w : List ℕ) where
+  pub good-is : goodRecords w ≡ true → Good w
+  unfolding goodRecords goodAt
+  good-is h =
+      let s = eqb (length w) (18 * numbers) in
+      let l = same (row 18 w 0) localUser in
+      let e = all (goodAt w) numbers in
+      let h₁ = and-right s (l && e) h in record {
+        sized = eqb-true _ _ (and-left s (l && e) h);
+        local = same-is _ _ (and-left l e h₁);
+        each = λ n b. all-at (goodAt w) numbers n (and-right l e h₁) b;
+      }
+
+  pub is-good : Good w → goodRecords w ≡ true
+  unfolding goodRecords goodAt
+  is-good g =
+      let l : same (row 18 w 0) localUser ≡ true = rw (g .local) (same-refl localUser) in
+      and-both (eq-eqb (length w) (18 * numbers) (g .sized)) (and-both l (all-from (goodAt w) numbers (g .each)))
+
+-- who is logged in, by the first byte of the record; nobody past the last number
+module _ (w : List ℕ) (sized : length w ≡ 18 * numbers) where
+  counted : recordCount w ≡ numbers
+  counted = ap (λ (k : ℕ). k / 18) sized
+
+  pub logged-at : (n : ℕ) → n < numbers → loggedIn w n ≡ eqb (getD (row 18 w n) 0 0) 1
+  unfolding loggedIn
+  logged-at n l = rw (counted, lt-ltb n numbers l, getD-part w (18 * n) 18 0 (lit< tt), add-zero)
+
+  pub logged-past : (n : ℕ) → numbers ≤ n → loggedIn w n ≡ false
+  unfolding loggedIn
+  logged-past n h = rw (counted, le-ltb n numbers h)
+
+  pub logged-below : (n : ℕ) → loggedIn w n ≡ true → n < numbers
+  logged-below n y = by-test (ltb n numbers) (ltb-true n numbers) (λ f. both y (logged-past n (ltb-false n numbers f)))
+
+-- user 0 is always logged in
+pub local-in : (w : List ℕ) → goodRecords w ≡ true → loggedIn w 0 ≡ true
+local-in w good =
+    let g = good-is w good in
+    logged-at w (g .sized) 0 (lit< tt) ∙ rw (g .local)
+
+-- record n set to r
+module _ (w : List ℕ) (sized : length w ≡ 18 * numbers) (n : ℕ) (b : n < numbers) (r : List ℕ) (full : length r ≡ 18) where
+  room : 18 * numbers ≤ length w
+  room = omega arith
+
+  set-sized : length (setRow 18 w n r) ≡ 18 * numbers
+  set-sized = length-setRow 18 numbers w room n b r full ∙ sized
+
+  set-same : row 18 (setRow 18 w n r) n ≡ r
+  set-same = row-setRow 18 numbers w room n b r full
+
+  set-other : (m : ℕ) → (m ≡ n → ⊥) → row 18 (setRow 18 w n r) m ≡ row 18 w m
+  set-other = row-setRow-other 18 numbers w room n b r full
+
+  set-each : goodRecord r ≡ true → ((m : ℕ) → m < numbers → goodRecord (row 18 w m) ≡ true) → (m : ℕ) → m < numbers → goodRecord (row 18 (setRow 18 w n r) m) ≡ true
+  set-each good each m l = by-eq m n
+      (λ e. rw (e, set-same) good)
+      (λ ne. rw (set-other m ne) (each m l))
+
+  -- who is logged in then
+  pub set-logged : (m : ℕ) → loggedIn (setRow 18 w n r) m ≡ cond (eqb m n) (eqb (getD r 0 0) 1) (loggedIn w m)
+  set-logged m = by-eq m n
+      (λ e. rw (e, eq-eqb n n refl) (logged-at (setRow 18 w n r) set-sized n b ∙ rw set-same))
+      (λ ne. rw (ne-eqb m n ne) (by-test (ltb m numbers)
+      (λ y. let l = ltb-true m numbers y in
+      logged-at (setRow 18 w n r) set-sized m l ∙ rw (set-other m ne) (sym (logged-at w sized m l)))
+      (λ f. let h = ltb-false m numbers f in
+      logged-past (setRow 18 w n r) set-sized m h ∙ sym (logged-past w sized m h))))
+
+-- every record but the first can be set to any good one
+pub set-good : (w : List ℕ) → goodRecords w ≡ true → (n : ℕ) → 1 ≤ n → n < numbers → (r : List ℕ) → length r ≡ 18 → goodRecord r ≡ true → goodRecords (setRow 18 w n r) ≡ true
+set-good w good n least b r full fine =
+    let g = good-is w good in
+    is-good (setRow 18 w n r) (record {
+      sized = set-sized w (g .sized) n b r full;
+      local = set-other w (g .sized) n b r full 0 (λ e. omega arith) ∙ g .local;
+      each = set-each w (g .sized) n b r full fine (g .each);
+    })
+
+-- a station that is logged in, with its counts in range, put down as record n
+pub login-good : (w : List ℕ) → goodRecords w ≡ true → (n : ℕ) → 1 ≤ n → n < numbers → (s : Station) → length (s .name) ≡ 8 → length (s .serial) ≡ 4 → s .logged ≡ true → goodCounts (s .misses) (s .slow) ≡ true → goodRecords (afterLogin w n s) ≡ true
+unfolding afterLogin
+login-good w good n least b s name serial logged counts =
+    set-good w good n least b (bytesOf s) (length-bytesOf s name serial) (bytesOf-good s name serial logged counts)
+
+-- record n cleared
+pub logout-good : (w : List ℕ) → goodRecords w ≡ true → (n : ℕ) → 1 ≤ n → n < numbers → goodRecords (afterLogout w n) ≡ true
+unfolding afterLogout
+logout-good w good n least b = set-good w good n least b nobody refl nobody-good
+
+-- after a login and after a logout: who is logged in, and that the other records stay
+module _ (w : List ℕ) (sized : length w ≡ 18 * numbers) (n : ℕ) (b : n < numbers) where
+  module _ (s : Station) (name : length (s .name) ≡ 8) (serial : length (s .serial) ≡ 4) where
+    pub login-logged : (m : ℕ) → loggedIn (afterLogin w n s) m ≡ cond (eqb m n) (s .logged) (loggedIn w m)
+    unfolding afterLogin
+    login-logged m =
+        set-logged w sized n b (bytesOf s) (length-bytesOf s name serial) m
+        ∙ rw (logged-bytesOf s, flag-back (s .logged))
+
+    pub login-other : (m : ℕ) → (m ≡ n → ⊥) → row 18 (afterLogin w n s) m ≡ row 18 w m
+    unfolding afterLogin
+    login-other = set-other w sized n b (bytesOf s) (length-bytesOf s name serial)
+
+  pub logout-logged : (m : ℕ) → loggedIn (afterLogout w n) m ≡ cond (eqb m n) false (loggedIn w m)
+  unfolding afterLogout
+  logout-logged = set-logged w sized n b nobody refl
+
+  pub logout-other : (m : ℕ) → (m ≡ n → ⊥) → row 18 (afterLogout w n) m ≡ row 18 w m
+  unfolding afterLogout
+  logout-other = set-other w sized n b nobody refl
+
+-- below the first index at which p holds, it fails
+first-least : (p : ℕ → Bool) (n i : ℕ) → i < first p n → p i ≡ false
+unfolding first
+first-least p zero i l = absurd (not-suc-le-zero l)
+first-least p (suc n) i l = by-test (any p n)
+    (λ y. first-least p n i (rw y at l))
+    (λ f. by-test (p n)
+    (λ h. none-at p n i f (rw (f, h) at l))
+    (λ h. by-eq i n
+    (λ e. rw e h)
+    (λ ne. let m : i < suc n = rw (f, h) at l in none-at p n i f (omega arith))))
+
+-- the lowest free number
+module _ (w : List ℕ) where
+  free : (n : ℕ) → freeNumber w n ≡ true → (1 ≤ n) × (loggedIn w n ≡ false)
+  unfolding freeNumber
+  free n h = (leb-true 1 n (and-left (leb 1 n) (not (loggedIn w n)) h), not-true _ (and-right (leb 1 n) (not (loggedIn w n)) h))
+
+  taken : (n : ℕ) → 1 ≤ n → freeNumber w n ≡ false → loggedIn w n ≡ true
+  unfolding freeNumber
+  taken n l h = not-false _ (rw (le-leb 1 n l) at h)
+
+  module _ (sized : length w ≡ 18 * numbers) where
+    lowest-first : lowestFree w ≡ first (freeNumber w) numbers
+    unfolding lowestFree
+    lowest-first = ap (first (freeNumber w)) (counted w sized)
+
+    below-lowest : (m : ℕ) → 1 ≤ m → m < lowestFree w → loggedIn w m ≡ true
+    below-lowest m l b = taken m l (first-least (freeNumber w) numbers m (rw lowest-first at b))
+
+    -- where there is one, it is free and every number before it is taken
+    pub lowest-free-is : lowestFree w < numbers → (1 ≤ lowestFree w) × (loggedIn w (lowestFree w) ≡ false) × ((m : ℕ) → 1 ≤ m → m < lowestFree w → loggedIn w m ≡ true)
+    lowest-free-is b =
+        let found = found-if (freeNumber w) numbers (rw lowest-first at b) in
+        let here = free (lowestFree w) (rw lowest-first (first-found (freeNumber w) numbers found .1)) in
+        (here .0, here .1, below-lowest)
+
+    -- where there is none, every number is taken
+    pub none-free : numbers ≤ lowestFree w → (lowestFree w ≡ numbers) × ((m : ℕ) → 1 ≤ m → m < numbers → loggedIn w m ≡ true)
+    none-free h =
+        let none = missing-if (freeNumber w) numbers (rw lowest-first at h) in
+        (lowest-first ∙ first-none (freeNumber w) numbers none, λ m l b. below-lowest m l (omega arith))
+
+-- copies from the front, and a row of them
+copies-front : (n : ℕ) (r : List ℕ) → copies (suc n) r ≡ r ++ copies n r
+unfolding copies
+copies-front zero r = sym (append-nil r)
+copies-front (suc n) r = ap (λ (l : List ℕ). l ++ r) (copies-front n r) ∙ append-assoc r (copies n r) r
+
+row-copies : (n i : ℕ) (r : List ℕ) → i < n → row (length r) (copies n r) i ≡ r
+unfolding copies part
+row-copies zero i r l = absurd (not-suc-le-zero l)
+row-copies (suc n) i r l = by-eq i n
+    (λ e. rw (e, drop-at (copies n r) r (length r * n) (length-copies n r)) (take-length r))
+    (λ ne.
+    let lt : i < n = omega arith in
+    let fits : length r * i + length r ≤ length (copies n r) = omega (arith, row-end (length r) lt, length-copies n r) in
+    rw (
+      drop-append-le (length r * i) (copies n r) r (omega arith),
+      take-append-le (length r) (drop (length r * i) (copies n r)) r (simp length-drop (omega arith)),
+    )
+    (row-copies n i r lt))
+
+-- the fresh records are 64 times nobody, with user 0 put down over the first
+abbrev empty : List ℕ
+empty = copies numbers nobody
+
+empty-sized : length empty ≡ 18 * numbers
+empty-sized = length-copies numbers nobody
+
+empty-row : (n : ℕ) → n < numbers → row 18 empty n ≡ nobody
+empty-row n b = row-copies numbers n nobody b
+
+empty-logged : (n : ℕ) → loggedIn empty n ≡ false
+empty-logged n = by-test (ltb n numbers)
+    (λ y. let b = ltb-true n numbers y in logged-at empty empty-sized n b ∙ rw (empty-row n b))
+    (λ f. logged-past empty empty-sized n (ltb-false n numbers f))
+
+fresh-is : freshRecords ≡ setRow 18 empty 0 localUser
+unfolding freshRecords
+fresh-is = sym (over-first empty localUser ∙ rw (copies-front 63 nobody))
+
+-- as they are made in lent bytes
+pub fresh-made : (w : List ℕ) → length w ≡ 18 * numbers → put (over (copies numbers nobody) w) 0 localUser ≡ freshRecords
+fresh-made w sized =
+    ap (λ (l : List ℕ). put l 0 localUser) (rw (drop-of-length-le w {i = length empty} (omega (arith, empty-sized))) (append-nil empty))
+    ∙ sym fresh-is
+
+-- they keep the rules, and only user 0 is logged in
+pub fresh-sized : length freshRecords ≡ 18 * numbers
+fresh-sized = rw fresh-is (set-sized empty empty-sized 0 (lit< tt) localUser refl)
+
+pub fresh-good : goodRecords freshRecords ≡ true
+fresh-good = is-good freshRecords (record {
+  sized = fresh-sized;
+  local = rw fresh-is (set-same empty empty-sized 0 (lit< tt) localUser refl);
+  each = rw fresh-is (set-each empty empty-sized 0 (lit< tt) localUser refl local-good (λ m b. rw (empty-row m b) nobody-good));
+})
+
+pub fresh-logged : (n : ℕ) → loggedIn freshRecords n ≡ eqb n 0
+fresh-logged n = rw fresh-is (set-logged empty empty-sized 0 (lit< tt) localUser refl n ∙ rw (empty-logged n) (itself (eqb n 0)))
+  where
+    itself : (b : Bool) → cond b true false ≡ b
+    itself true = refl
+    itself false = refl
