@@ -9,7 +9,10 @@ use lib.ListN.{length, getD}
 use borrow.Author.Tests.{eqb-true, eqb-false, eq-eqb, ne-eqb, not-false}
 use Rattle.rows.proofs.BoolLaws.{by-test}
 use Rattle.frames.specs.Table.{frameLength, carriesAddress}
-use Rattle.frames.specs.Reading.{code, refusalOf}
+use Rattle.frames.specs.Requests.{plain}
+use Rattle.frames.specs.Reading.{code, refusalOf, namedIn, loginIn, stringIn, requestIn}
+use Rattle.frames.specs.Writing.{codeOf}
+use Rattle.frames.proofs.TableLaws.{Code, acknowledge, read, write, login, assign, lock, unlock, clear, logout, code-is}
 
 -- what the tests of a frame that is not refused say: its code and its length are in the table, and dtn is 0
 pub record Well (f : List ℕ) : Type 0 where
@@ -56,3 +59,19 @@ is-well f w =
 -- the length of a frame that is not refused, by its code
 pub well-long : (f : List ℕ) (k : ℕ) → refusalOf f ≡ 0 → code f ≡ k → length f ≡ frameLength k
 well-long f k h e = well-is f h .long ∙ ap frameLength e
+
+-- the command of a frame has the frame's code
+pub code-kept : (f : List ℕ) → refusalOf f ≡ 0 → codeOf (requestIn f .command) ≡ code f
+unfolding codeOf requestIn namedIn loginIn stringIn plain
+code-kept f h = go (code-is (code f) (well-is f h .known))
+  where
+    go : Code (code f) → codeOf (requestIn f .command) ≡ code f
+    go (acknowledge e) = rw e
+    go (read e) = rw e
+    go (write e) = rw e
+    go (login e) = rw e
+    go (assign e) = rw e
+    go (lock e) = rw e
+    go (unlock e) = rw e
+    go (clear e) = rw e
+    go (logout e) = rw e

@@ -3,7 +3,7 @@ use Prim.Native.Nat.{ℕ}
 use mathlib.Core.Path.{_≡_, refl, sym, _∙_}
 use mathlib.Core.Bool.{Bool, true, false, _&&_, _||_, true≢false}
 use lib.Dec.{eqb}
-use borrow.Author.Tests.{eqb-true, eqb-false}
+use borrow.Author.Tests.{eqb-true, eqb-false, eq-eqb}
 
 -- by cases on a test, with its equation
 pub by-test {ℓ} : {P : Type ℓ} (b : Bool) → (b ≡ true → P) → (b ≡ false → P) → P
@@ -56,3 +56,7 @@ contra a b f n = by-test a (λ y. both (f y) n) (λ m. m)
 -- two tests that imply each other
 pub iff : (a b : Bool) → (a ≡ true → b ≡ true) → (b ≡ true → a ≡ true) → a ≡ b
 iff a b f g = by-test b (λ y. g y ∙ sym y) (λ n. contra a b f n ∙ sym n)
+
+-- equality of numbers is tested either way round
+pub eqb-sym : (i j : ℕ) → eqb i j ≡ eqb j i
+eqb-sym i j = iff (eqb i j) (eqb j i) (λ y. eq-eqb j i (sym (eqb-true i j y))) (λ y. eq-eqb i j (sym (eqb-true j i y)))

@@ -1,5 +1,5 @@
 -- The laws of `build`, `same` and `zeros`: lists by their elements.
-use Prim.Native.Nat.{ℕ, zero, suc, _+_, _≤_, _<_}
+use Prim.Native.Nat.{ℕ, zero, suc, _+_, _-_, _≤_, _<_}
 use native.Mathlib.Nat.{le-antisymm, le-of-suc-le-suc, not-suc-le-zero, eq-or-lt-of-le}
 use native.Mathlib.Numerals.{add-one}
 use native.Mathlib.Omega.{arith}
@@ -8,8 +8,8 @@ use mathlib.Core.Logic.{⊎-elim}
 use mathlib.Core.Bool.{true}
 use mathlib.Core.List.{List, [], _∷_, _++_, append-nil}
 use lib.Dec.{eqb}
-use lib.ListN.{length, drop, getD, set, replicate, length-append, length-replicate, getD-replicate, List·getD-append, drop-of-length-le}
-use lib.Seq.{drop-cons, set-at, append-snoc, ext-getD, getD-at}
+use lib.ListN.{length, drop, getD, set, replicate, length-append, length-replicate, getD-replicate, List·getD-append, drop-of-length-le, replicate-append-replicate}
+use lib.Seq.{drop-at, drop-cons, set-at, append-snoc, ext-getD, getD-at}
 use borrow.Author.Tests.{eqb-true, eq-eqb}
 use Rattle.rows.proofs.BoolLaws.{and-left, and-right, and-both}
 use Rattle.rows.proofs.IndexLaws.{all-at, all-from}
@@ -72,3 +72,11 @@ pub is-zeros : (n : ℕ) → zeros (replicate n 0) ≡ true
 unfolding zeros zeroAt
 is-zeros n = all-from (zeroAt (replicate n 0)) (length (replicate n 0))
     (λ i b. eq-eqb _ _ (getD-replicate n i 0 0 (rw length-replicate at b)))
+
+-- the zeros behind the first k of n
+pub drop-zeros : (n k : ℕ) → k ≤ n → drop k (replicate n 0) ≡ replicate {A = ℕ} (n - k) 0
+drop-zeros n k h =
+    let split : n ≡ k + (n - k) = omega arith in
+    ap (λ (m : ℕ). drop k (replicate m 0)) split
+    ∙ ap (drop k) (sym (replicate-append-replicate k (n - k) 0))
+    ∙ drop-at (replicate k 0) (replicate (n - k) 0) k (length-replicate k 0)

@@ -5,10 +5,10 @@ use native.Mathlib.Numerals.{add-one}
 use native.Mathlib.Omega.{arith}
 use mathlib.Core.Path.{_≡_, refl, sym, ap, _∙_, subst}
 use mathlib.Core.Logic.{⊎-elim}
-use mathlib.Core.Bool.{Bool, true, false, not, _||_}
+use mathlib.Core.Bool.{Bool, true, false, not, _&&_, _||_, and-or-distrib-right, or-true, or-false}
 use lib.Dec.{leb, ltb}
 use borrow.Author.Tests.{lt-ltb, le-ltb, le-leb, lt-leb}
-use Rattle.rows.proofs.BoolLaws.{by-test, both, and-fails}
+use Rattle.rows.proofs.BoolLaws.{by-test, by-eq, both, and-fails}
 use Rattle.rows.specs.Words.{all, any, first}
 
 module _ (p : ℕ → Bool) where
@@ -90,6 +90,38 @@ module _ (p : ℕ → Bool) where
   first-misses n = by-test (any p n)
       (λ y. lt-leb n _ (first-found n y .0) ∙ sym (ap not y))
       (λ m. le-leb n (first p n) (omega (arith, first-none n m)) ∙ sym (ap not m))
+
+-- two tests beside each other, below n
+module _ (p q : ℕ → Bool) where
+  -- with one answer at each index
+  pub any-same : (n : ℕ) → ((i : ℕ) → i < n → q i ≡ p i) → any q n ≡ any p n
+  unfolding any
+  any-same zero h = refl
+  any-same (suc n) h = rw (any-same n (λ i l. h i (omega arith)), h n (omega arith))
+
+  -- where the one is the other and a further test b that is the same at each index
+  pub any-and : (n : ℕ) (b : Bool) → ((i : ℕ) → i < n → q i ≡ (p i && b)) → any q n ≡ (any p n && b)
+  unfolding any
+  any-and zero b h = refl
+  any-and (suc n) b h = rw (any-and n b (λ i l. h i (omega arith)), h n (omega arith)) (sym (and-or-distrib-right (any p n) (p n) b))
+
+  -- where they differ at k alone, at which p fails
+  pub any-set : (n k : ℕ) → k < n → p k ≡ false → ((i : ℕ) → i < n → (i ≡ k → ⊥) → q i ≡ p i) → any q n ≡ (any p n || q k)
+  any-set n k l fails others = by-test (q k)
+      (λ y. any-at q n k l y ∙ sym (rw y (or-true (any p n))))
+      (λ m. any-same n (λ i b. by-eq i k (λ (e : i ≡ k). rw e (m ∙ sym fails)) (others i b)) ∙ sym (rw m (or-false (any p n))))
+
+-- below the first index at which p holds, it fails
+pub first-least : (p : ℕ → Bool) (n i : ℕ) → i < first p n → p i ≡ false
+unfolding first
+first-least p zero i l = absurd (not-suc-le-zero l)
+first-least p (suc n) i l = by-test (any p n)
+    (λ y. first-least p n i (rw y at l))
+    (λ f. by-test (p n)
+    (λ h. none-at p n i f (rw (f, h) at l))
+    (λ h. by-eq i n
+    (λ e. rw e h)
+    (λ ne. let m : i < suc n = rw (f, h) at l in none-at p n i f (omega arith))))
 
 -- the invariants of a search and of a test of every index, and what a turn, a return and the end make of them
 abbrev pub Searching : (ℕ → Bool) → ℕ → ℕ → Type 0

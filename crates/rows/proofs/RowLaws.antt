@@ -7,7 +7,7 @@ use mathlib.Core.Path.{_≡_, refl, sym, ap, _∙_, subst}
 use mathlib.Core.Logic.{_⊎_, inl, inr, ⊎-elim}
 use mathlib.Core.List.{List, _++_, append-nil, append-assoc}
 use lib.ListN.{length, take, drop, getD, length-append, length-take, length-drop, take-append-drop, drop-of-length-le, List·getD-append}
-use lib.Seq.{ext-getD, getD-take, getD-drop, getD-append-add, length-take-le, take-at, drop-at, take-all, take-length, drop-drop}
+use lib.Seq.{ext-getD, getD-take, getD-drop, getD-append-add, length-take-le, take-at, drop-at, take-all, take-append-le, drop-append-le, take-length, drop-drop}
 use borrow.Author.Tests.{ltb-true, ltb-false}
 use lib.Dec.{ltb}
 use Rattle.rows.proofs.BoolLaws.{by-test}
@@ -51,6 +51,12 @@ part-part l at n a m h = ext-getD 0 _ _
     let lt : k < m = omega (arith, simp length-take at b) in
     rw (getD-take m (drop a (take n (drop at l))) k 0 lt, getD-drop a (take n (drop at l)) k 0, getD-take n (drop at l) (a + k) 0 (omega arith), getD-drop at l (a + k) 0)
     (rw (getD-take m (drop (at + a) l) k 0 lt, getD-drop (at + a) l k 0, add-assoc at a k)))
+
+-- a part that lies in the first of two lists
+pub part-append : (a b : List ℕ) (at n : ℕ) → at + n ≤ length a → part (a ++ b) at n ≡ part a at n
+unfolding part
+part-append a b at n h =
+    rw (drop-append-le at a b (omega arith), take-append-le n (drop at a) b (simp length-drop (omega arith)))
 
 -- all of p copied over bytes that are no more
 pub copied-over : (p d : List ℕ) → length d ≤ length p → take (length p) p ++ drop (length p) d ≡ p
@@ -200,3 +206,18 @@ module _ (w : ℕ) (f : List ℕ → List ℕ) (keeps : (r : List ℕ) → lengt
       (λ lt. row-setRow-other w n (eachRow w f m t) (still-sized m (omega arith)) m h (f (row w t m)) (keeps _ (length-row w n t sized m h)) j (omega arith)
       ∙ row-eachRow m j (omega arith) lt)
       (eq-or-lt-of-le (le-of-suc-le-suc l))
+
+-- each of n copies of r is r
+pub row-copies : (w : ℕ) (r : List ℕ) → length r ≡ w → (n i : ℕ) → i < n → row w (copies n r) i ≡ r
+unfolding copies part
+row-copies w r full zero i l = absurd (not-suc-le-zero l)
+row-copies w r full (suc n) i l = ⊎-elim
+    (λ (e : i ≡ n). rw (e, drop-at (copies n r) r (w * n) (length-copies n r ∙ rw full)) (take-all w r (omega arith)))
+    (λ lt. part-append (copies n r) r (w * i) w (omega (arith, length-copies n r, ap (λ (k : ℕ). k * n) full, row-end w lt)) ∙ row-copies w r full n i lt)
+    (eq-or-lt-of-le (le-of-suc-le-suc l))
+
+-- copies from the front, and a row of them
+pub copies-front : (n : ℕ) (r : List ℕ) → copies (suc n) r ≡ r ++ copies n r
+unfolding copies
+copies-front zero r = sym (append-nil r)
+copies-front (suc n) r = ap (λ (l : List ℕ). l ++ r) (copies-front n r) ∙ append-assoc r (copies n r) r

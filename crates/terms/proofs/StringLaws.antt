@@ -2,13 +2,15 @@
 use Prim.Native.Nat.{ℕ, min, _≤_}
 use native.Mathlib.Omega.{arith}
 use mathlib.Core.Path.{_≡_, refl, sym, ap, _∙_}
-use mathlib.Core.Bool.{true}
+use mathlib.Core.Bool.{true, _&&_}
+use mathlib.Core.List.{append-nil}
 use lib.Dec.{eqb, leb}
-use lib.ListN.{length, take, drop, replicate, length-take}
+use lib.ListN.{length, take, drop, replicate, length-take, drop-of-length-le}
 use lib.Seq.{take-at, take-all}
 use borrow.Author.Tests.{eqb-true, eq-eqb, leb-true, leb-false}
 use Rattle.rows.proofs.BoolLaws.{by-test, and-left, and-right, and-both}
 use Rattle.rows.proofs.BuildLaws.{same-is, same-refl}
+use Rattle.rows.proofs.RowLaws.{length-over}
 use Rattle.rows.specs.Words.{same}
 use Rattle.rows.specs.Rows.{over}
 use Rattle.terms.specs.declared.LockString.{LockString}
@@ -71,3 +73,45 @@ normal-same a b fa fb e = is-same-string a b (record { long = long; keys = keys 
         sym (take-at (key a) (drop (length (key a)) (replicate 13 0)) (length (key a)) refl)
         ∙ ap (λ (s : LockString). take (length (key a)) (s .bytes)) e
         ∙ take-at (key b) (drop (length (key b)) (replicate 13 0)) (length (key a)) (length-key b ∙ sym (length-key a ∙ rw (long, fa, fb)))
+
+-- only the length says whether a string is legal
+pub legal-same : (a b : LockString) → sameString a b ≡ true → legal a ≡ legal b
+unfolding legal
+legal-same a b h = rw (same-string-is a b h .long)
+
+-- one of two strings that are the same stands for the other
+pub same-string-left : (a b x : LockString) → sameString a b ≡ true → sameString a x ≡ sameString b x
+unfolding sameString
+same-string-left a b x h = let e = same-string-is a b h in λ i. eqb (e .long i) (x .len) && same (e .keys i) (key x)
+
+pub same-string-right : (a b x : LockString) → sameString a b ≡ true → sameString x a ≡ sameString x b
+unfolding sameString
+same-string-right a b x h = let e = same-string-is a b h in λ i. eqb (x .len) (e .long i) && same (key x) (e .keys i)
+
+pub same-string-sym : (a b : LockString) → sameString a b ≡ true → sameString b a ≡ true
+same-string-sym a b h = sym (same-string-left a b a h) ∙ same-string-refl a
+
+pub same-string-trans : (a b c : LockString) → sameString a b ≡ true → sameString b c ≡ true → sameString a c ≡ true
+same-string-trans a b c p q = same-string-left a b c p ∙ q
+
+-- a string of thirteen bytes and its normal form
+module _ (s : LockString) (full : length (s .bytes) ≡ 13) where
+  pub length-normal : length (normal s .bytes) ≡ 13
+  unfolding normal
+  length-normal = length-over (replicate 13 0) (key s) (omega (arith, length-key s))
+
+  pub key-normal : key (normal s) ≡ key s
+  unfolding key normal
+  key-normal = by-test (leb (s .len) 13)
+      (λ y. take-at (key s) _ (s .len) (length-key s ∙ omega (arith, leb-true (s .len) 13 y)))
+      (λ n.
+      let long : 13 ≤ s .len = omega (arith, leb-false (s .len) 13 n) in
+      let whole : 13 ≤ length (key s) = omega (arith, length-key s) in
+      take-all (s .len) _ (omega (arith, length-normal)) ∙ rw (drop-of-length-le {A = ℕ} (replicate 13 0) whole) (append-nil (key s)))
+
+  pub normal-is-same : sameString (normal s) s ≡ true
+  unfolding normal
+  normal-is-same = is-same-string (normal s) s (record { long = refl; keys = key-normal })
+
+  pub same-string-normal : (x : LockString) → sameString (normal s) x ≡ sameString s x
+  same-string-normal x = same-string-left (normal s) s x normal-is-same

@@ -1,20 +1,19 @@
 -- The laws of the 64 records: their rules as facts, who is logged in, what a login and a logout change and what they leave, the lowest free number, and the fresh records.
-use Prim.Native.Nat.{ℕ, zero, suc, _+_, _*_, _/_, _≤_, _<_}
-use native.Mathlib.Nat.{add-zero, not-suc-le-zero}
+use Prim.Native.Nat.{ℕ, _*_, _/_, _≤_, _<_}
+use native.Mathlib.Nat.{add-zero}
 use native.Mathlib.Omega.{arith}
 use mathlib.Core.Path.{_≡_, refl, sym, ap, _∙_}
 use mathlib.Core.Bool.{Bool, true, false, not, cond, _&&_}
-use mathlib.Core.List.{List, _++_, append-nil, append-assoc}
+use mathlib.Core.List.{List, append-nil}
 use lib.Dec.{eqb, leb, ltb, lit<}
-use lib.ListN.{length, drop, getD, length-drop, drop-of-length-le}
-use lib.Seq.{take-length, drop-at, take-append-le, drop-append-le}
+use lib.ListN.{length, getD, drop-of-length-le}
 use borrow.Author.Tests.{eqb-true, eq-eqb, ne-eqb, ltb-true, ltb-false, lt-ltb, le-ltb, leb-true, le-leb, not-true, not-false}
 use Rattle.rows.proofs.BoolLaws.{by-test, by-eq, both, and-left, and-right, and-both}
-use Rattle.rows.proofs.IndexLaws.{all-at, all-from, none-at, first-found, first-none, found-if, missing-if}
+use Rattle.rows.proofs.IndexLaws.{first-least, all-at, all-from, first-found, first-none, found-if, missing-if}
 use Rattle.rows.proofs.BuildLaws.{same-is, same-refl}
-use Rattle.rows.proofs.RowLaws.{getD-part, over-first, length-copies, row-end, length-setRow, row-setRow, row-setRow-other}
+use Rattle.rows.proofs.RowLaws.{copies-front, row-copies, getD-part, over-first, length-copies, length-setRow, row-setRow, row-setRow-other}
 use Rattle.rows.specs.Words.{all, any, first, same}
-use Rattle.rows.specs.Rows.{part, put, over, copies, row, setRow}
+use Rattle.rows.specs.Rows.{put, over, copies, row, setRow}
 use Rattle.who.specs.declared.Station.{Station}
 use Rattle.who.specs.Records.{bytesOf, nobody, localUser}
 use Rattle.who.specs.Good.{goodCounts, goodRecord, goodAt, numbers, goodRecords}
@@ -139,18 +138,6 @@ module _ (w : List ℕ) (sized : length w ≡ 18 * numbers) (n : ℕ) (b : n < n
   unfolding afterLogout
   logout-other = set-other w sized n b nobody refl
 
--- below the first index at which p holds, it fails
-first-least : (p : ℕ → Bool) (n i : ℕ) → i < first p n → p i ≡ false
-unfolding first
-first-least p zero i l = absurd (not-suc-le-zero l)
-first-least p (suc n) i l = by-test (any p n)
-    (λ y. first-least p n i (rw y at l))
-    (λ f. by-test (p n)
-    (λ h. none-at p n i f (rw (f, h) at l))
-    (λ h. by-eq i n
-    (λ e. rw e h)
-    (λ ne. let m : i < suc n = rw (f, h) at l in none-at p n i f (omega arith))))
-
 -- the lowest free number
 module _ (w : List ℕ) where
   free : (n : ℕ) → freeNumber w n ≡ true → (1 ≤ n) × (loggedIn w n ≡ false)
@@ -182,26 +169,6 @@ module _ (w : List ℕ) where
         let none = missing-if (freeNumber w) numbers (rw lowest-first at h) in
         (lowest-first ∙ first-none (freeNumber w) numbers none, λ m l b. below-lowest m l (omega arith))
 
--- copies from the front, and a row of them
-copies-front : (n : ℕ) (r : List ℕ) → copies (suc n) r ≡ r ++ copies n r
-unfolding copies
-copies-front zero r = sym (append-nil r)
-copies-front (suc n) r = ap (λ (l : List ℕ). l ++ r) (copies-front n r) ∙ append-assoc r (copies n r) r
-
-row-copies : (n i : ℕ) (r : List ℕ) → i < n → row (length r) (copies n r) i ≡ r
-unfolding copies part
-row-copies zero i r l = absurd (not-suc-le-zero l)
-row-copies (suc n) i r l = by-eq i n
-    (λ e. rw (e, drop-at (copies n r) r (length r * n) (length-copies n r)) (take-length r))
-    (λ ne.
-    let lt : i < n = omega arith in
-    let fits : length r * i + length r ≤ length (copies n r) = omega (arith, row-end (length r) lt, length-copies n r) in
-    rw (
-      drop-append-le (length r * i) (copies n r) r (omega arith),
-      take-append-le (length r) (drop (length r * i) (copies n r)) r (simp length-drop (omega arith)),
-    )
-    (row-copies n i r lt))
-
 -- the fresh records are 64 times nobody, with user 0 put down over the first
 abbrev empty : List ℕ
 empty = copies numbers nobody
@@ -210,7 +177,7 @@ empty-sized : length empty ≡ 18 * numbers
 empty-sized = length-copies numbers nobody
 
 empty-row : (n : ℕ) → n < numbers → row 18 empty n ≡ nobody
-empty-row n b = row-copies numbers n nobody b
+empty-row n b = row-copies 18 nobody refl numbers n b
 
 empty-logged : (n : ℕ) → loggedIn empty n ≡ false
 empty-logged n = by-test (ltb n numbers)

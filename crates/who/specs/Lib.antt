@@ -1,3 +1,4 @@
 pub mod Records
 pub mod Good
 pub mod Logins
+pub mod Turns

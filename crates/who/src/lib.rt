@@ -9,6 +9,8 @@ ghost use Rattle.rows.specs.Outcomes.{Gives};
 ghost use Rattle.who.specs.Records.{flag, bytesOf, stationOf};
 ghost use Rattle.who.specs.Good.{goodCounts, goodRecord, goodAt, numbers, goodRecords};
 ghost use Rattle.who.specs.Logins.{loggedIn, freeNumber, lowestFree, afterLogout, freshRecords};
+ghost use Rattle.who.specs.Turns.{isDue, turnOf};
+ghost use mathlib.Core.Bool.{true};
 
 pub const NUMBERS: usize = 64;
 
@@ -201,4 +203,51 @@ pub fn fresh(records: &mut [u8])
 {
     rows::fill(records, NUMBERS, &NOBODY);
     rows::put(records, 0, &LOCAL_USER);
+}
+
+// What one poll turn does: was the station due, is it out, and its counts after the turn.
+pub struct Turn {
+    pub due: bool,
+    pub out: bool,
+    pub misses: u16,
+    pub slow: u8,
+}
+
+// The station is due in this turn.
+fn is_due(misses: u16, slow: u8) -> bool
+    ensures { λ r. ⌜ r ≡ isDue misses slow ⌝ }
+{
+    if misses < 160 {
+        return true;
+    }
+    slow == 11
+}
+
+// One poll turn of a station with these misses and slow turns, heard or not.
+pub fn turn_of(misses: u16, slow: u8, heard: bool) -> Turn
+    requires { ⌜ goodCounts misses slow ≡ true ⌝ }
+    ensures { λ r. ⌜ r ≡ turnOf misses slow heard ⌝ }
+{
+    if !is_due(misses, slow) {
+        return Turn {
+            due: false,
+            out: false,
+            misses,
+            slow: slow + 1,
+        };
+    }
+    if heard {
+        return Turn {
+            due: true,
+            out: false,
+            misses: 0,
+            slow: 0,
+        };
+    }
+    Turn {
+        due: true,
+        out: misses == 255,
+        misses: misses + 1,
+        slow: 0,
+    }
 }

@@ -1,0 +1,18 @@
+use Rattle.locks.specs.Table.{freeAt, ownerAt}
+use Rattle.locks.specs.Row.{isFree}
+use lib.Dec.{eqb}
+use Prim.Native.Nat.{ℕ}
+use mathlib.Core.Path.{ap}
+use borrow.Author.Needs.{needs}
+use Rattle.locks.proofs.row.is_free.Statement.{statement}
+use Rattle.locks.proofs.row.is_free.Tie as tie
+
+owner-of-requires : tie.Need-owner-of-requires
+owner-of-requires c κs = search needs
+
+returns : tie.Need-returns
+unfolding freeAt isFree ownerAt
+returns c = ap (λ (k : ℕ). eqb k 0xFF) (c .owner-of .ensures)
+
+pub is-free-spec : {M : Type 1} → statement M
+is-free-spec = tie.close (tie.spec owner-of-requires returns)

@@ -1,0 +1,41 @@
+-- The rules of the lock table, beside the station records w.
+use Prim.Native.Nat.{ℕ, _+_, _-_, _*_}
+use mathlib.Core.Bool.{Bool, cond, not, _&&_, _||_}
+use mathlib.Core.List.{List}
+use lib.Dec.{eqb}
+use lib.ListN.{length}
+use Rattle.rows.specs.Words.{all, any, same, zeros}
+use Rattle.rows.specs.Rows.{part, row, copies}
+use Rattle.terms.specs.Strings.{legal}
+use Rattle.who.specs.Logins.{loggedIn}
+use Rattle.locks.specs.Row.{owner, stringOf, freeRow, isFree}
+use Rattle.locks.specs.Table.{holdsAt, freeAt}
+
+-- a free row has owner FF and zeros; a used row has length 1 to 13, zeros after the string and in the spare byte, and an owner who is logged in
+unfoldable pub goodRow : List ℕ → List ℕ → Bool
+goodRow w r =
+    cond (isFree r) (zeros (part r 1 15))
+    (loggedIn w (owner r)
+    && (legal (stringOf r)
+    && zeros (part r (2 + stringOf r .len) (14 - stringOf r .len))))
+
+unfoldable pub goodAt : List ℕ → List ℕ → ℕ → Bool
+goodAt w t i = goodRow w (row 16 t i)
+
+-- no two used rows hold the same string: no earlier one holds this one's
+unfoldable pub aloneAt : List ℕ → ℕ → Bool
+aloneAt t i = freeAt t i || not (any (holdsAt t (stringOf (row 16 t i))) i)
+
+-- a table of n rows
+unfoldable pub goodRows : ℕ → List ℕ → List ℕ → Bool
+goodRows n w t = eqb (length t) (16 * n) && (all (goodAt w t) n && all (aloneAt t) n)
+
+-- how many locks a master has
+abbrev pub locks : ℕ
+locks = 64
+
+unfoldable pub goodLocks : List ℕ → List ℕ → Bool
+goodLocks w t = goodRows locks w t
+
+unfoldable pub freshLocks : List ℕ
+freshLocks = copies locks freeRow

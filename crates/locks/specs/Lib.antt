@@ -1,0 +1,4 @@
+pub mod Row
+pub mod Table
+pub mod Good
+pub mod Holding

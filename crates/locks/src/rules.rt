@@ -1,0 +1,76 @@
+// The rules of the lock table, row by row.
+use crate::ROW;
+use crate::row;
+ghost use mathlib.Core.Path.{_≡_};
+ghost use Prim.Native.Nat.{_+_, _*_, _≤_, _<_};
+ghost use lib.ListN.{length};
+ghost use Rattle.rows.specs.Words.{all};
+ghost use Rattle.locks.specs.Good.{goodRow, goodAt, aloneAt};
+
+// A row by itself: free with zeros, or used by somebody who is logged in, with a legal length and zeros after the string.
+fn row_good(r: &[u8], records: &[u8]) -> bool
+    requires { ⌜ length (now r) ≡ 16 ⌝ }
+    ensures { λ b. ⌜ b ≡ goodRow (now (records .entry)) (now (r .entry)) ⌝ }
+{
+    if r[0] == 0xFF {
+        return rows::is_zero(rows::part(r, 1, 15));
+    }
+    if !who::is_in(records, wide(r[0])) {
+        return false;
+    }
+    let len = wide(r[1]);
+    if len < 1 {
+        return false;
+    }
+    if 13 < len {
+        return false;
+    }
+    rows::is_zero(rows::part(r, 2 + len, 14 - len))
+}
+
+fn wide(b: u8) -> usize
+    ensures { λ r. ⌜ (r ≡ b) × (r < 256) ⌝ }
+{
+    b as usize
+}
+
+// Each of the first n rows keeps the rules by itself.
+pub fn rows_good(table: &[u8], n: usize, records: &[u8]) -> bool
+    requires { ⌜ 16 * n ≤ length (now table) ⌝ }
+    ensures { λ b. ⌜ b ≡ all (goodAt (now (records .entry)) (now (table .entry))) n ⌝ }
+{
+    let mut i: usize = 0;
+    while i < n {
+        if !row_good(rows::part(table, ROW * i, ROW), records) {
+            return false;
+        }
+        i += 1;
+    }
+    true
+}
+
+// Row i is free, or no earlier row holds its string.
+fn row_alone(table: &[u8], i: usize) -> bool
+    requires { ⌜ 16 * i + 16 ≤ length (now table) ⌝ }
+    ensures { λ b. ⌜ b ≡ aloneAt (now (table .entry)) i ⌝ }
+{
+    if row::is_free(table, i) {
+        return true;
+    }
+    i <= row::find_string(table, i, row::string_of(table, i))
+}
+
+// No two of the first n rows hold the same string.
+pub fn rows_alone(table: &[u8], n: usize) -> bool
+    requires { ⌜ 16 * n ≤ length (now table) ⌝ }
+    ensures { λ b. ⌜ b ≡ all (aloneAt (now (table .entry))) n ⌝ }
+{
+    let mut i: usize = 0;
+    while i < n {
+        if !row_alone(table, i) {
+            return false;
+        }
+        i += 1;
+    }
+    true
+}

@@ -1,0 +1,118 @@
+-- The tests of a frame as facts.
+use Prim.Native.Nat.{ℕ, _<_}
+use native.Mathlib.Omega.{arith}
+use mathlib.Core.Path.{_≡_, refl}
+use mathlib.Core.Bool.{Bool, true, false, cond, not, _&&_, _||_}
+use mathlib.Core.List.{List}
+use lib.Dec.{eqb}
+use lib.ListN.{length, getD}
+use borrow.Author.Tests.{eqb-true, eqb-false, eq-eqb, ne-eqb, not-false}
+use Rattle.rows.proofs.BoolLaws.{by-eq, both, or-rest}
+use Rattle.frames.specs.Table.{LOGIN, LOGOUT, frameLength, carriesAddress}
+use Rattle.frames.specs.Reading.{code, refusalOf}
+use Rattle.frames.proofs.ReadLaws.{is-well}
+use Rattle.who.specs.Logins.{loggedIn}
+use Rattle.who.proofs.WhoLaws.{logged-below}
+use Rattle.master.specs.Refusals.{ANYBODY, unknown, misplaced, dtnSet, srcDiffers, frameTests}
+
+-- a row of seven tests and what comes last
+tests : Bool → Bool → Bool → Bool → Bool → Bool → Bool → ℕ → ℕ
+tests a b c d e g h x = cond a 1 (cond b 2 (cond c 3 (cond d 4 (cond e 5 (cond g 6 (cond h 7 x))))))
+
+-- where nothing is refused, all seven fail
+record None (a b c d e g h : Bool) : Type 0 where
+  no-1 : a ≡ false
+  no-2 : b ≡ false
+  no-3 : c ≡ false
+  no-4 : d ≡ false
+  no-5 : e ≡ false
+  no-6 : g ≡ false
+  no-7 : h ≡ false
+
+none-holds : (a b c d e g h : Bool) → tests a b c d e g h 0 ≡ 0 → None a b c d e g h
+unfolding tests
+none-holds true b c d e g h z = absurd (omega arith)
+none-holds false true c d e g h z = absurd (omega arith)
+none-holds false false true d e g h z = absurd (omega arith)
+none-holds false false false true e g h z = absurd (omega arith)
+none-holds false false false false true g h z = absurd (omega arith)
+none-holds false false false false false true h z = absurd (omega arith)
+none-holds false false false false false false true z = absurd (omega arith)
+none-holds false false false false false false false z = record { no-1 = refl; no-2 = refl; no-3 = refl; no-4 = refl; no-5 = refl; no-6 = refl; no-7 = refl }
+
+one-holds : (a b c d e g h : Bool) (x : ℕ) → (tests a b c d e g h 0 ≡ 0 → ⊥) → tests a b c d e g h x ≡ tests a b c d e g h 0
+unfolding tests
+one-holds true b c d e g h x z = refl
+one-holds false true c d e g h x z = refl
+one-holds false false true d e g h x z = refl
+one-holds false false false true e g h x z = refl
+one-holds false false false false true g h x z = refl
+one-holds false false false false false true h x z = refl
+one-holds false false false false false false true x z = refl
+one-holds false false false false false false false x z = absurd (z refl)
+
+module _ (n : ℕ) (f w : List ℕ) where
+  -- what the tests of a frame that none of 1 to 7 refuses say
+  pub record Passed : Type 0 where
+    pub some : length f ≡ 0 → ⊥
+    pub number : unknown n w ≡ false
+    pub known : frameLength (code f) ≡ 0 → ⊥
+    pub long : length f ≡ frameLength (code f)
+    pub seat : misplaced n (code f) ≡ false
+    pub dtn : dtnSet f ≡ false
+    pub src : srcDiffers n f ≡ false
+
+  pub passed : frameTests n f w 0 ≡ 0 → Passed
+  unfolding frameTests tests
+  passed z =
+      let t = none-holds (eqb (length f) 0) (unknown n w) (eqb (frameLength (code f)) 0) (not (eqb (length f) (frameLength (code f)))) (misplaced n (code f)) (dtnSet f) (srcDiffers n f) z in
+      record {
+        some = eqb-false _ _ (t .no-1);
+        number = t .no-2;
+        known = eqb-false _ _ (t .no-3);
+        long = eqb-true _ _ (not-false _ (t .no-4));
+        seat = t .no-5;
+        dtn = t .no-6;
+        src = t .no-7;
+      }
+
+  -- then what comes last decides
+  pub tests-pass : (x : ℕ) → Passed → frameTests n f w x ≡ x
+  unfolding frameTests
+  tests-pass x p =
+      rw (ne-eqb (length f) 0 (p .some), p .number, ne-eqb (frameLength (code f)) 0 (p .known), eq-eqb (length f) (frameLength (code f)) (p .long), p .seat, p .dtn, p .src)
+
+  -- and where one of them holds, what comes last does not matter
+  pub tests-stop : (x : ℕ) → (frameTests n f w 0 ≡ 0 → ⊥) → frameTests n f w x ≡ frameTests n f w 0
+  unfolding frameTests tests
+  tests-stop x z = one-holds (eqb (length f) 0) (unknown n w) (eqb (frameLength (code f)) 0) (not (eqb (length f) (frameLength (code f)))) (misplaced n (code f)) (dtnSet f) (srcDiffers n f) x z
+
+  -- such a frame reads well
+  pub reads-well : Passed → refusalOf f ≡ 0
+  unfolding dtnSet
+  reads-well p = is-well f (record {
+    known = p .known;
+    long = p .long;
+    dtn = λ y. eqb-true _ _ (second (carriesAddress (code f)) (eqb (getD f 1 0) 0) y (p .dtn));
+  })
+    where
+      second : (a b : Bool) → a ≡ true → (a && not b) ≡ false → b ≡ true
+      second true b t h = not-false b h
+      second false b t h = both t refl
+
+  -- the number is known, and only a login is served at 253
+  module _ (sized : length w ≡ 1152) (p : Passed) where
+    seated : (n ≡ ANYBODY → ⊥) → loggedIn w n ≡ true
+    unfolding unknown
+    seated ne = or-rest (eqb n ANYBODY) (loggedIn w n) (not-false _ (p .number)) (ne-eqb n ANYBODY ne)
+
+    pub number-small : n < 256
+    number-small = by-eq n ANYBODY (λ e. omega arith) (λ ne. omega (arith, logged-below w sized n (seated ne)))
+
+    pub seat-in : eqb (code f) LOGIN ≡ false → loggedIn w n ≡ true
+    unfolding misplaced
+    seat-in h = seated (λ e. both (eq-eqb n ANYBODY e) (first (eqb n ANYBODY) (eqb (code f) LOGOUT && eqb n 0) (rw h at (p .seat))))
+      where
+        first : (a b : Bool) → (a || b) ≡ false → a ≡ false
+        first true b q = q
+        first false b q = refl

@@ -1,0 +1,5 @@
+pub mod Tables
+pub mod Answers
+pub mod Refusals
+pub mod Frames
+pub mod Fresh

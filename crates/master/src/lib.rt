@@ -1,0 +1,86 @@
+// The master's entries: fresh tables, the check of the tables, and one frame at one number. The tables are lent; an answer
+// is an enum by value, and `told` (specs/Answers.antt) says what it tells.
+mod commands;
+mod refusals;
+
+use terms::Partition;
+use terms::Place;
+use terms::Volume;
+ghost use mathlib.Core.Path.{_≡_};
+ghost use mathlib.Core.Bool.{true};
+ghost use Rattle.rows.specs.Outcomes.{Gives};
+ghost use Rattle.site.specs.Rules.{goodSite};
+ghost use Rattle.master.specs.Tables.{goodTables};
+ghost use Rattle.master.specs.Frames.{Serves};
+ghost use Rattle.master.specs.Fresh.{Freshens};
+
+pub enum Answer {
+    Refused(u8),
+    Nothing,
+    Status(u8),
+    Assigned {
+        size: u8,
+        partition: Partition,
+        control: u8,
+        volume: Volume,
+    },
+    At(Place),
+    LoggedIn {
+        number: u8,
+        found: bool,
+        serial: u32,
+    },
+}
+
+// Fills fresh tables: 64 free rows and only user 0. 11 for another size.
+pub fn fresh(locks: &mut [u8], records: &mut [u8]) -> Answer
+    ensures { λ r. ⌜ Freshens (now (locks .entry)) (now (records .entry)) r (now (locks .exit)) (now (records .exit)) ⌝ }
+{
+    if locks.len() != locks::BYTES {
+        return Answer::Refused(11);
+    }
+    if records.len() != who::BYTES {
+        return Answer::Refused(11);
+    }
+    locks::fresh(locks);
+    who::fresh(records);
+    Answer::Nothing
+}
+
+// The tables have the right sizes and keep every rule; refusal 11 where they do not.
+pub fn tables_good(locks: &[u8], records: &[u8]) -> bool
+    ensures { λ b. ⌜ Gives (goodTables (now (locks .entry)) (now (records .entry))) b ⌝ }
+{
+    if !who::is_good(records) {
+        return false;
+    }
+    locks::is_good(locks, records)
+}
+
+// One frame at the number polled, over tables and a site file that are known to be good: 1 to 9, or what the frame does.
+pub fn act(number: u32, frame: &[u8], site: &[u8], locks: &mut [u8], records: &mut [u8]) -> Answer
+    requires { ⌜ goodTables (now locks) (now records) ≡ true ⌝ }
+    requires { ⌜ goodSite (now site) ≡ true ⌝ }
+    ensures { λ r. ⌜ Serves number (now (frame .entry)) (now (site .entry)) (now (locks .entry)) (now (records .entry)) r (now (locks .exit)) (now (records .exit)) ⌝ }
+{
+    let refusal = refusals::first_of(number, frame, records);
+    if refusal != 0 {
+        return Answer::Refused(refusal);
+    }
+    let reading = frames::read(frame);
+    let request = reading.request;
+    commands::perform(number as u8, request, site, locks, records)
+}
+
+// One frame at the number polled: 11, 10, 1 to 9, or what the frame does.
+pub fn serve(number: u32, frame: &[u8], site: &[u8], locks: &mut [u8], records: &mut [u8]) -> Answer
+    ensures { λ r. ⌜ Serves number (now (frame .entry)) (now (site .entry)) (now (locks .entry)) (now (records .entry)) r (now (locks .exit)) (now (records .exit)) ⌝ }
+{
+    if !tables_good(locks, records) {
+        return Answer::Refused(11);
+    }
+    if !site::is_good(site) {
+        return Answer::Refused(10);
+    }
+    act(number, frame, site, locks, records)
+}
