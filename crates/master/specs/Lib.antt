@@ -3,3 +3,4 @@ pub mod Answers
 pub mod Refusals
 pub mod Frames
 pub mod Fresh
+pub mod Polls

@@ -1,6 +1,7 @@
 // The master's entries: fresh tables, the check of the tables, and one frame at one number. The tables are lent; an answer
 // is an enum by value, and `told` (specs/Answers.antt) says what it tells.
 mod commands;
+mod poll;
 mod refusals;
 
 use terms::Partition;
@@ -13,6 +14,7 @@ ghost use Rattle.site.specs.Rules.{goodSite};
 ghost use Rattle.master.specs.Tables.{goodTables};
 ghost use Rattle.master.specs.Frames.{Serves};
 ghost use Rattle.master.specs.Fresh.{Freshens};
+ghost use Rattle.master.specs.Polls.{Polls};
 
 pub enum Answer {
     Refused(u8),
@@ -30,6 +32,12 @@ pub enum Answer {
         found: bool,
         serial: u32,
     },
+}
+
+// What a poll turn is answered: was it due, did it end in a logout.
+pub enum Turned {
+    Refused(u8),
+    Turn { due: bool, out: bool },
 }
 
 // Fills fresh tables: 64 free rows and only user 0. 11 for another size.
@@ -83,4 +91,14 @@ pub fn serve(number: u32, frame: &[u8], site: &[u8], locks: &mut [u8], records: 
         return Answer::Refused(10);
     }
     act(number, frame, site, locks, records)
+}
+
+// One poll turn of the number, heard or not: 11, 2, 5, 12, or the turn.
+pub fn poll_turn(number: u32, heard: bool, locks: &mut [u8], records: &mut [u8]) -> Turned
+    ensures { λ r. ⌜ Polls number heard (now (locks .entry)) (now (records .entry)) r (now (locks .exit)) (now (records .exit)) ⌝ }
+{
+    if !tables_good(locks, records) {
+        return Turned::Refused(11);
+    }
+    poll::step(number, heard, locks, records)
 }

@@ -8,9 +8,10 @@ ghost use Rattle.frames.specs.Reading.{code as codeOf};
 ghost use Rattle.master.specs.Refusals.{unknown, misplaced, dtnSet, srcDiffers, frameTests};
 
 // Where a station without a number is polled.
-const ANYBODY: u32 = 253;
+pub const ANYBODY: u32 = 253;
 
-fn is_unknown(number: u32, records: &[u8]) -> bool
+// The number is nobody's: refusal 2.
+pub fn is_unknown(number: u32, records: &[u8]) -> bool
     ensures { λ r. ⌜ r ≡ unknown number (now (records .entry)) ⌝ }
 {
     if number == ANYBODY {

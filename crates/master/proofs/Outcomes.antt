@@ -1,0 +1,65 @@
+-- An answer tells one thing only, two outcomes of a call are equal, and a refused call leaves everything as it was.
+use Prim.Native.Nat.{ℕ}
+use native.Mathlib.Omega.{arith}
+use mathlib.Core.Path.{_≡_, refl, sym, ap, _∙_}
+use mathlib.Core.Bool.{Bool, true, false}
+use mathlib.Core.List.{List, [], _∷_}
+use lib.Dec.{eqb}
+use borrow.Author.Tests.{ne-eqb}
+use Rattle.who.specs.Records.{flag}
+use Rattle.master.specs.declared.Answer.{Answer}
+use Rattle.master.specs.declared.Answer.the-variants.{Refused, Nothing, Status, Assigned, At, LoggedIn}
+use Rattle.master.specs.Answers.{Told, refuses, answers, told}
+use Rattle.master.specs.Refusals.{refusal}
+use Rattle.master.specs.Frames.{frameTold, frameLocks, frameRecords, Serves}
+use Rattle.master.specs.Fresh.{Freshens}
+
+-- a flag tells its Bool
+flag-one : (a b : Bool) → flag a ≡ flag b → a ≡ b
+unfolding flag
+flag-one true true e = refl
+flag-one true false e = absurd (omega arith)
+flag-one false true e = absurd (omega arith)
+flag-one false false e = refl
+
+-- what an answer tells, read back
+known : Told → Answer
+known (refuses k) = Refused k
+known (answers []) = Nothing
+known (answers (s ∷ [])) = Status s
+known (answers (v ∷ s ∷ [])) = At (record { volume = record { 0 = v }; sector = s })
+known (answers (n ∷ f ∷ s ∷ [])) = LoggedIn n (eqb f 1) s
+known (answers (z ∷ p ∷ c ∷ v ∷ [])) = Assigned z (record { 0 = p }) c (record { 0 = v })
+known (answers (a ∷ b ∷ c ∷ d ∷ e ∷ l)) = Nothing
+
+known-told : (a : Answer) → known (told a) ≡ a
+unfolding known told flag
+known-told (Refused k) = refl
+known-told Nothing = refl
+known-told (Status s) = refl
+known-told (Assigned size partition control volume) = refl
+known-told (At p) = refl
+known-told (LoggedIn number true serial) = refl
+known-told (LoggedIn number false serial) = refl
+
+-- two answers that tell the same are equal
+pub told-one : (a b : Answer) → told a ≡ told b → a ≡ b
+told-one a b e = sym (known-told a) ∙ ap known e ∙ known-told b
+
+-- any two outcomes that a contract allows are equal
+pub serves-one : {n : ℕ} {f s t w : List ℕ} {r r′ : Answer} {t₁ t₂ w₁ w₂ : List ℕ} → Serves n f s t w r t₁ w₁ → Serves n f s t w r′ t₂ w₂ → (r ≡ r′) × (t₁ ≡ t₂) × (w₁ ≡ w₂)
+serves-one a b = (told-one _ _ (a .answer ∙ sym (b .answer)), a .locks ∙ sym (b .locks), a .records ∙ sym (b .records))
+
+pub freshens-one : {t w : List ℕ} {r r′ : Answer} {t₁ t₂ w₁ w₂ : List ℕ} → Freshens t w r t₁ w₁ → Freshens t w r′ t₂ w₂ → (r ≡ r′) × (t₁ ≡ t₂) × (w₁ ≡ w₂)
+freshens-one a b = (told-one _ _ (a .answer ∙ sym (b .answer)), a .locks ∙ sym (b .locks), a .records ∙ sym (b .records))
+
+-- a refused frame: the tables are what they were, and nothing is answered
+pub refused-untouched : (n : ℕ) (f s t w : List ℕ) (r : Answer) (t′ w′ : List ℕ) → Serves n f s t w r t′ w′ → (refusal n f s t w ≡ 0 → ⊥)
+    → (r ≡ Refused (refusal n f s t w)) × (t′ ≡ t) × (w′ ≡ w)
+unfolding frameTold frameLocks frameRecords told
+refused-untouched n f s t w r t′ w′ a ne =
+    let no = ne-eqb (refusal n f s t w) 0 ne in
+    let tells : told r ≡ told (Refused (refusal n f s t w)) = a .answer ∙ rw no in
+    let same-locks : t′ ≡ t = a .locks ∙ rw no in
+    let same-records : w′ ≡ w = a .records ∙ rw no in
+    (told-one _ _ tells, same-locks, same-records)
