@@ -126,7 +126,7 @@ module _ (n : ℕ) (f s t w : List ℕ) (good : goodTables t w ≡ true) where
     lock-others y i b a u (full l h e) = refl
     lock-others y i b a u (granted l h e) = has-granted t n y l h e b (used-number t w good n i) m x ∙ rw (ne-eqb m n nm) (or-false (has t m x))
 
-    cleared-others : has (clearedTable t n) m x ≡ has t m x
+    pub cleared-others : has (clearedTable t n) m x ≡ has t m x
     cleared-others = has-cleared t n m x ∙ rw (ne-eqb m n nm) (and-true (has t m x))
 
     deed-others-have : (a : Told) (t′ w′ : List ℕ) → Deed n f s t w a t′ w′ → has t′ m x ≡ has t m x

@@ -4,3 +4,4 @@ pub mod Outcomes
 pub mod Deeds
 pub mod Keeps
 pub mod PollLaws
+pub mod PollKeeps

@@ -1,0 +1,159 @@
+-- What a poll turn does to good tables, as one view, and to everybody: tables stay good, all others keep records and locks.
+use Prim.Native.Nat.{ℕ, _<_}
+use native.Mathlib.Omega.{arith}
+use mathlib.Core.Path.{_≡_, refl, sym, ap, _∙_}
+use mathlib.Core.Bool.{Bool, true, false, not}
+use mathlib.Core.List.{List, [], _∷_}
+use lib.Dec.{eqb}
+use lib.ListN.{length}
+use borrow.Author.Tests.{eq-eqb, ne-eqb}
+use Rattle.rows.proofs.BoolLaws.{by-test, by-eq}
+use Rattle.rows.proofs.RowLaws.{length-row, length-part}
+use Rattle.rows.specs.Rows.{row, setRow}
+use Rattle.terms.specs.declared.LockString.{LockString}
+use Rattle.who.specs.declared.Station.{Station}
+use Rattle.who.specs.Records.{flag, bytesOf, stationOf}
+use Rattle.who.specs.Good.{numbers}
+use Rattle.who.specs.Logins.{loggedIn, afterLogin, afterLogout}
+use Rattle.who.proofs.TurnLaws.{turn-good}
+use Rattle.who.proofs.WhoLaws.{good-is, logged-at, login-good, login-logged, login-other, logout-other}
+use Rattle.locks.specs.Good.{locks, goodLocks}
+use Rattle.locks.specs.Table.{clearedTable}
+use Rattle.locks.specs.Holding.{has}
+use Rattle.locks.proofs.Keeps.{login-keeps}
+use Rattle.master.specs.declared.Turned.{Turned}
+use Rattle.master.specs.declared.Turned.the-variants.{Refused, Turn}
+use Rattle.master.specs.Tables.{goodTables}
+use Rattle.master.specs.Answers.{Told, refuses, answers}
+use Rattle.master.specs.Polls.{turnTold, stationAt, dueAt, outAt, withCounts, afterTurn, turnLocks, turnRecords, pollRefusal, pollTold, pollLocks, pollRecords, Polls}
+use Rattle.master.proofs.Deeds.{records-good, locks-good}
+use Rattle.master.proofs.Keeps.{tables-are, logout-out, logout-tables, cleared-others}
+use Rattle.master.proofs.PollLaws.{seatRefusal, seat-refused, seat-in, polled-below, polled-counts}
+
+module _ (n : ℕ) (heard : Bool) (t w : List ℕ) where
+  -- refused: nothing changes. Turned: the counts of n change and nothing else. Dropped: n is logged out
+  pub data TurnDeed : Told → List ℕ → List ℕ → Type 0 where
+    refused : (k : ℕ) → (k ≡ 0 → ⊥) → TurnDeed (refuses k) t w
+    turned : loggedIn w n ≡ true → (n ≡ 0 → ⊥) → outAt w n heard ≡ false
+        → TurnDeed (answers (flag (dueAt w n) ∷ flag false ∷ [])) t (setRow 18 w n (bytesOf (afterTurn (stationAt w n) heard)))
+    dropped : loggedIn w n ≡ true → (n ≡ 0 → ⊥) → outAt w n heard ≡ true
+        → TurnDeed (answers (flag (dueAt w n) ∷ flag true ∷ [])) (clearedTable t n) (afterLogout w n)
+
+  -- a turn that is not refused is that of a station 1 to 63 that is logged in
+  seated : pollRefusal n heard t w ≡ 0 → (loggedIn w n ≡ true) × (n ≡ 0 → ⊥)
+  unfolding pollRefusal
+  seated z = by-test (goodTables t w)
+      (λ y. by-eq (seatRefusal n heard t w) 0
+      (seat-in n heard t w y)
+      (λ ne. absurd (ne (sym (seat-refused n heard t w y ne) ∙ z))))
+      (λ m. let lie : _≡_ {A = ℕ} 11 0 = rw m at z in absurd (omega arith))
+
+  pub turn-deed : TurnDeed (pollTold n heard t w) (pollLocks n heard t w) (pollRecords n heard t w)
+  unfolding pollTold pollLocks pollRecords turnLocks turnRecords
+  turn-deed = by-eq (pollRefusal n heard t w) 0
+      (λ z.
+      let p = seated z in
+      by-test (outAt w n heard)
+      (λ y. rw (z, y) (dropped (p .0) (p .1) y))
+      (λ m. rw (z, m) (turned (p .0) (p .1) m)))
+      (λ ne. rw (ne-eqb (pollRefusal n heard t w) 0 ne) (refused (pollRefusal n heard t w) ne))
+
+  module _ (good : goodTables t w ≡ true) where
+    sized : length w ≡ 1152
+    sized = good-is w (records-good t w good) .sized
+
+    -- the station with its counts after a turn is still logged in, and its record is in order
+    module _ (in-now : loggedIn w n ≡ true) where
+      below : n < numbers
+      below = polled-below n t w good in-now
+
+      after : Station
+      after = afterTurn (stationAt w n) heard
+
+      long : length (row 18 w n) ≡ 18
+      long = length-row 18 numbers w (omega (arith, sized)) n below
+
+      name-long : length (after .name) ≡ 8
+      unfolding after afterTurn withCounts stationAt stationOf
+      name-long = length-part (row 18 w n) 4 8 (omega (arith, long))
+
+      serial-long : length (after .serial) ≡ 4
+      unfolding after afterTurn withCounts stationAt stationOf
+      serial-long = length-part (row 18 w n) 12 4 (omega (arith, long))
+
+      still-in : after .logged ≡ true
+      unfolding after afterTurn withCounts stationAt stationOf
+      still-in = sym (logged-at w sized n below) ∙ in-now
+
+      turned-logged : (m : ℕ) → loggedIn (setRow 18 w n (bytesOf (afterTurn (stationAt w n) heard))) m ≡ loggedIn w m
+      unfolding after afterLogin
+      turned-logged m = login-logged w sized n below after name-long serial-long m ∙ by-eq m n
+          (λ (e : m ≡ n). rw (e, eq-eqb n n refl, still-in) (sym in-now))
+          (λ ne. rw (ne-eqb m n ne))
+
+      turned-tables : (n ≡ 0 → ⊥) → outAt w n heard ≡ false → goodTables t (setRow 18 w n (bytesOf (afterTurn (stationAt w n) heard))) ≡ true
+      unfolding goodLocks after afterLogin afterTurn withCounts outAt
+      turned-tables ne on = tables-are _ _
+          (login-good w (records-good t w good) n (omega arith) below after name-long serial-long still-in
+          (turn-good (stationAt w n .misses) (stationAt w n .slow) (polled-counts n t w good in-now) heard on))
+          (login-keeps locks w t (locks-good t w good) _ (λ a i. turned-logged a ∙ i))
+
+    -- good tables stay good
+    turn-deed-keeps : (a : Told) (t′ w′ : List ℕ) → TurnDeed a t′ w′ → goodTables t′ w′ ≡ true
+    turn-deed-keeps a t′ w′ (refused k ne) = good
+    turn-deed-keeps a t′ w′ (turned i ne on) = turned-tables i ne on
+    turn-deed-keeps a t′ w′ (dropped i ne out) = logout-tables t w good n i ne
+
+    pub poll-keeps : goodTables (pollLocks n heard t w) (pollRecords n heard t w) ≡ true
+    poll-keeps = turn-deed-keeps _ _ _ turn-deed
+
+    -- everybody else stays in, with the same record
+    turn-others-in : (a : Told) (t′ w′ : List ℕ) → TurnDeed a t′ w′ → (m : ℕ) → (m ≡ n → ⊥) → (loggedIn w′ m ≡ loggedIn w m) × (row 18 w′ m ≡ row 18 w m)
+    unfolding after afterLogin
+    turn-others-in a t′ w′ (refused k ne) m nm = (refl, refl)
+    turn-others-in a t′ w′ (turned i ne on) m nm = (turned-logged i m, login-other w sized n (below i) (after i) (name-long i) (serial-long i) m nm)
+    turn-others-in a t′ w′ (dropped i ne out) m nm = (logout-out t w good n i m ∙ rw (ne-eqb m n nm), logout-other w sized n (below i) m nm)
+
+    pub poll-others-in : (m : ℕ) → (m ≡ n → ⊥) → (loggedIn (pollRecords n heard t w) m ≡ loggedIn w m) × (row 18 (pollRecords n heard t w) m ≡ row 18 w m)
+    poll-others-in = turn-others-in _ _ _ turn-deed
+
+    -- and holds what it held
+    turn-others-have : (a : Told) (t′ w′ : List ℕ) → TurnDeed a t′ w′ → (m : ℕ) → (m ≡ n → ⊥) → (x : LockString) → has t′ m x ≡ has t m x
+    turn-others-have a t′ w′ (refused k ne) m nm x = refl
+    turn-others-have a t′ w′ (turned i ne on) m nm x = refl
+    turn-others-have a t′ w′ (dropped i ne out) m nm x = cleared-others n [] [] t w good m nm x
+
+    pub poll-others-have : (m : ℕ) → (m ≡ n → ⊥) → (x : LockString) → has (pollLocks n heard t w) m x ≡ has t m x
+    poll-others-have = turn-others-have _ _ _ turn-deed
+
+-- any two outcomes of a poll turn are equal
+turn-known : Told → Turned
+turn-known (refuses k) = Refused k
+turn-known (answers []) = Refused 0
+turn-known (answers (d ∷ [])) = Refused 0
+turn-known (answers (d ∷ o ∷ l)) = Turn (eqb d 1) (eqb o 1)
+
+turn-known-told : (a : Turned) → turn-known (turnTold a) ≡ a
+unfolding turn-known turnTold flag
+turn-known-told (Refused k) = refl
+turn-known-told (Turn true true) = refl
+turn-known-told (Turn true false) = refl
+turn-known-told (Turn false true) = refl
+turn-known-told (Turn false false) = refl
+
+pub turn-told-one : (a b : Turned) → turnTold a ≡ turnTold b → a ≡ b
+turn-told-one a b e = sym (turn-known-told a) ∙ ap turn-known e ∙ turn-known-told b
+
+pub polls-one : {n : ℕ} {h : Bool} {t w : List ℕ} {r r′ : Turned} {t₁ t₂ w₁ w₂ : List ℕ} → Polls n h t w r t₁ w₁ → Polls n h t w r′ t₂ w₂ → (r ≡ r′) × (t₁ ≡ t₂) × (w₁ ≡ w₂)
+polls-one a b = (turn-told-one _ _ (a .answer ∙ sym (b .answer)), a .locks ∙ sym (b .locks), a .records ∙ sym (b .records))
+
+-- a refused turn: the tables are what they were, and nothing is answered
+pub refused-turn-untouched : (n : ℕ) (h : Bool) (t w : List ℕ) (r : Turned) (t′ w′ : List ℕ) → Polls n h t w r t′ w′ → (pollRefusal n h t w ≡ 0 → ⊥)
+    → (r ≡ Refused (pollRefusal n h t w)) × (t′ ≡ t) × (w′ ≡ w)
+unfolding pollTold pollLocks pollRecords turnTold
+refused-turn-untouched n h t w r t′ w′ a ne =
+    let no = ne-eqb (pollRefusal n h t w) 0 ne in
+    let tells : turnTold r ≡ turnTold (Refused (pollRefusal n h t w)) = a .answer ∙ rw no in
+    let same-locks : t′ ≡ t = a .locks ∙ rw no in
+    let same-records : w′ ≡ w = a .records ∙ rw no in
+    (turn-told-one _ _ tells, same-locks, same-records)
