@@ -41,11 +41,20 @@ pub locks-good : (t w : List ℕ) → goodTables t w ≡ true → goodLocks w t 
 unfolding goodTables
 locks-good t w good = and-right (goodRecords w) (goodLocks w t) good
 
+-- the number that an answer of three values gives: that of a login
+unfoldable pub loginNumber : Told → ℕ
+loginNumber (refuses k) = 0
+loginNumber (answers []) = 0
+loginNumber (answers (a ∷ [])) = 0
+loginNumber (answers (a ∷ b ∷ [])) = 0
+loginNumber (answers (a ∷ b ∷ c ∷ [])) = a
+loginNumber (answers (a ∷ b ∷ c ∷ d ∷ l)) = 0
+
 module _ (n : ℕ) (f s t w : List ℕ) where
-  -- refused: nothing changes. Quiet: an answer and no change. The others change a table
+  -- refused: nothing changes. Quiet: an answer and no change, and nobody is logged in. The others change a table
   pub data Deed : Told → List ℕ → List ℕ → Type 0 where
     refused : (k : ℕ) → (k ≡ 0 → ⊥) → Deed (refuses k) t w
-    quiet : (vs : List ℕ) → Deed (answers vs) t w
+    quiet : (vs : List ℕ) → loginNumber (answers vs) ≡ 0 → Deed (answers vs) t w
     logged-in : n ≡ ANYBODY → lowestFree w < numbers → (name serial : List ℕ) (product : ℕ) (found : Bool) → length name ≡ 8 → length serial ≡ 4
         → Deed (answers (lowestFree w ∷ flag found ∷ lowFirst serial ∷ [])) t (afterLogin w (lowestFree w) (loggedInAs name serial product found))
     locked : loggedIn w n ≡ true → (x : LockString) → length (x .bytes) ≡ 13 → Deed (answers (lockStatus t n x ∷ [])) (lockTable t n x) w
@@ -75,14 +84,14 @@ module _ (n : ℕ) (f s t w : List ℕ) where
   Done q = Deed (answerTo (q .command) q n s t w) (locksBy (q .command) q n t) (recordsBy (q .command) q n s w)
 
   place-done : (p : Placed) → Deed (placeTold p) t w
-  unfolding placeTold
+  unfolding placeTold loginNumber
   place-done p = by-eq (p .refusal) 0
-      (λ e. rw e (quiet _))
+      (λ e. rw e (quiet _ refl))
       (λ ne. rw (ne-eqb (p .refusal) 0 ne) (refused (p .refusal) ne))
 
   assign-done : (q : Request) → Deed (assignAnswer q s) t w
-  unfolding assignAnswer rowAnswer
-  assign-done q = by-test (assignable q s) (λ y. rw y (quiet _)) (λ m. rw m (quiet _))
+  unfolding assignAnswer rowAnswer loginNumber
+  assign-done q = by-test (assignable q s) (λ y. rw y (quiet _ refl)) (λ m. rw m (quiet _ refl))
 
   module _ (h : Heard) where
     sized : length w ≡ 1152
@@ -108,14 +117,14 @@ module _ (n : ℕ) (f s t w : List ℕ) where
         second false b q = q
 
     login-done : code f ≡ LOGIN → Deed (loginAnswer (loginIn f) s w) t (loginRecords (loginIn f) (getD f 19 0) s w)
-    unfolding loginAnswer loginRecords hasFree loginIn frameLength lengthIn frameTable
+    unfolding loginAnswer loginRecords hasFree loginIn frameLength lengthIn frameTable loginNumber
     login-done e = by-test (ltb (lowestFree w) numbers)
         (λ y. rw y (logged-in (at-anybody e) (ltb-true _ _ y) _ _ _ _ (length-part f 1 8 (omega (arith, long LOGIN e))) (length-part f 15 4 (omega (arith, long LOGIN e)))))
-        (λ m. rw m (quiet _))
+        (λ m. rw m (quiet _ refl))
 
     done : Code (code f) → Done (requestIn f)
-    unfolding Done requestIn stringIn namedIn loginIn plain answerTo locksBy recordsBy frameLength lengthIn frameTable
-    done (acknowledge e) = rw e (quiet [])
+    unfolding Done requestIn stringIn namedIn loginIn plain answerTo locksBy recordsBy frameLength lengthIn frameTable loginNumber
+    done (acknowledge e) = rw e (quiet [] refl)
     done (read e) = rw e (place-done _)
     done (write e) = rw e (place-done _)
     done (login e) = rw e (login-done e)

@@ -85,7 +85,7 @@ module _ (n : ℕ) (f s t w : List ℕ) (good : goodTables t w ≡ true) where
   deed-keeps : (a : Told) (t′ w′ : List ℕ) → Deed n f s t w a t′ w′ → goodTables t′ w′ ≡ true
   unfolding goodLocks
   deed-keeps a t′ w′ (refused k ne) = good
-  deed-keeps a t′ w′ (quiet vs) = good
+  deed-keeps a t′ w′ (quiet vs z) = good
   deed-keeps a t′ w′ (logged-in e free name serial product found n8 s4) = login-tables t w good free name serial product found n8 s4
   deed-keeps a t′ w′ (locked i x b) = tables-are _ _ (records-good t w good) (lock-keeps locks w t (locks-good t w good) n x i (used-number t w good n i) b)
   deed-keeps a t′ w′ (unlocked i x) = tables-are _ _ (records-good t w good) (unlock-keeps locks w t (locks-good t w good) n x)
@@ -99,7 +99,7 @@ module _ (n : ℕ) (f s t w : List ℕ) (good : goodTables t w ≡ true) where
   deed-others-in : (a : Told) (t′ w′ : List ℕ) → Deed n f s t w a t′ w′ → (m : ℕ) → (m ≡ n → ⊥) → loggedIn w m ≡ true → (loggedIn w′ m ≡ true) × (row 18 w′ m ≡ row 18 w m)
   unfolding loggedInAs
   deed-others-in a t′ w′ (refused k ne) m nm i = (i, refl)
-  deed-others-in a t′ w′ (quiet vs) m nm i = (i, refl)
+  deed-others-in a t′ w′ (quiet vs z) m nm i = (i, refl)
   deed-others-in a t′ w′ (logged-in e free name serial product found n8 s4) m nm i = (
     login-stays t w good free name serial product found n8 s4 m i,
     login-other w (sized t w good) (lowestFree w) free (loggedInAs name serial product found) n8 s4 m (λ z. both i (rw z (lowest-free-is w (sized t w good) free .1))),
@@ -131,7 +131,7 @@ module _ (n : ℕ) (f s t w : List ℕ) (good : goodTables t w ≡ true) where
 
     deed-others-have : (a : Told) (t′ w′ : List ℕ) → Deed n f s t w a t′ w′ → has t′ m x ≡ has t m x
     deed-others-have a t′ w′ (refused k ne) = refl
-    deed-others-have a t′ w′ (quiet vs) = refl
+    deed-others-have a t′ w′ (quiet vs z) = refl
     deed-others-have a t′ w′ (logged-in e free name serial product found n8 s4) = refl
     deed-others-have a t′ w′ (locked i y b) = lock-others y i b _ _ (lock-case lg n y)
     deed-others-have a t′ w′ (unlocked i y) =
@@ -151,7 +151,7 @@ module _ (n : ℕ) (f s t w : List ℕ) (good : goodTables t w ≡ true) where
   deed-record : (a : Told) (t′ w′ : List ℕ) → Deed n f s t w a t′ w′ → (m : ℕ) → RecordCase m w′
   unfolding loggedInAs
   deed-record a t′ w′ (refused k ne) m = same refl
-  deed-record a t′ w′ (quiet vs) m = same refl
+  deed-record a t′ w′ (quiet vs z) m = same refl
   deed-record a t′ w′ (logged-in e free name serial product found n8 s4) m = by-eq m (lowestFree w)
       (λ z. by-login e z (rw z (lowest-free-is w (sized t w good) free .1)))
       (λ ne. same (login-other w (sized t w good) (lowestFree w) free (loggedInAs name serial product found) n8 s4 m ne))

@@ -1,0 +1,4 @@
+pub mod PlaceLaws
+pub mod PackLaws
+pub mod TellLaws
+pub mod EntryLaws

@@ -1,0 +1,157 @@
+-- Everything that the master tells fits its word.
+use Prim.Native.Nat.{ℕ, zero, suc, _+_, _*_, _<_, _^_}
+use native.Mathlib.Omega.{arith}
+use native.Mathlib.Nat.{pow-suc}
+use mathlib.Core.Path.{_≡_}
+use mathlib.Core.Bool.{Bool, true, false, cond, not, _||_}
+use mathlib.Core.List.{List, [], _∷_}
+use lib.Dec.{eqb, ltb}
+use lib.ListN.{length, take, drop}
+use lib.Seq.{getD-drop}
+use borrow.Author.Tests.{ltb-true, ne-eqb}
+use Rattle.rows.proofs.BoolLaws.{by-test, by-eq, and-left}
+use Rattle.rows.proofs.NumberLaws.{Bytes}
+use Rattle.rows.specs.Words.{any, same, zeros}
+use Rattle.rows.specs.Rows.{part}
+use Rattle.rows.specs.Numbers.{lowFirst}
+use Rattle.terms.specs.declared.Address.{Address}
+use Rattle.terms.specs.declared.LockString.{LockString}
+use Rattle.terms.specs.Strings.{legal}
+use Rattle.frames.specs.declared.Request.{Request}
+use Rattle.frames.specs.declared.Command.the-variants.{Assign, Lock, Unlock}
+use Rattle.frames.specs.Requests.{plain}
+use Rattle.frames.specs.Table.{READ, WRITE, LOGIN, ASSIGN, LOCK, UNLOCK, CLEAR, LOGOUT, frameLength, carriesAddress}
+use Rattle.frames.specs.Reading.{code, addressIn, namedIn, loginIn, stringIn, requestIn}
+use Rattle.site.specs.declared.PartitionRow.{PartitionRow}
+use Rattle.site.specs.Layout.{partitions, partitionsFrom, rowAt, partitionRow, partitionPassword}
+use Rattle.site.specs.Rules.{ranged, goodSite}
+use Rattle.site.specs.Found.{indexOfName, indexOfNumber}
+use Rattle.site.specs.Places.{inside, placeOn, refused, placedOn, placedIn, placedBy}
+use Rattle.site.proofs.RuleLaws.{ranged-is, site-partition}
+use Rattle.site.proofs.PlaceLaws.{place-ends}
+use Rattle.who.specs.Good.{numbers}
+use Rattle.who.specs.Logins.{lowestFree}
+use Rattle.locks.specs.Table.{rowCount, freeAt, isHeld, isOwn, lockStatus, unlocks, unlockStatus}
+use Rattle.master.specs.Refusals.{unknown, misplaced, dtnSet, srcDiffers, placeRefusal, frameTests, frameRefusal, refusal}
+use Rattle.master.specs.Tables.{goodTables}
+use Rattle.master.specs.Frames.{placeTold, hasFree, nameFound, loginAnswer, rowAnswer, assignable, assignAnswer, answerTo, frameTold}
+use Rattle.hinet.proofs.PackLaws.{flag-small, Tellable}
+
+-- what holds of both sides of a choice
+by-cond : {A : Type 0} (P : A → Type 0) (b : Bool) {x y : A} → P x → P y → P (cond b x y)
+by-cond P true p q = p
+by-cond P false p q = q
+
+either : (b : Bool) (k m : ℕ) → k < 256 → m < 256 → cond b k m < 256
+either true k m l h = l
+either false k m l h = h
+
+-- the number in n bytes
+low-small : (n : ℕ) (l : List ℕ) → Bytes l → lowFirst (take n l) < 256 ^ n
+unfolding lowFirst
+low-small zero l b = omega arith
+low-small (suc n) [] b = omega (arith, pow-suc 256 n, low-small n [] b)
+low-small (suc n) (x ∷ l) b =
+    let small : x < 256 = b 0 in
+    omega (arith, pow-suc 256 n, low-small n l (λ i. b (suc i)))
+
+part-small : (f : List ℕ) (at n : ℕ) → Bytes f → lowFirst (part f at n) < 256 ^ n
+unfolding part
+part-small f at n b = low-small n (drop at f) (λ i. rw getD-drop (b (at + i)))
+
+-- a place, in a good site file and in any
+place-on-fits : (r : PartitionRow) (a : Address) → ranged r ≡ true → Tellable (placeTold (placedOn r a))
+unfolding placeTold placedOn placeOn refused
+place-on-fits r a g = by-test (inside r a)
+    (λ y. rw y (omega (arith, ranged-is r g .volume, place-ends r a g y .1)))
+    (λ n. rw n (omega arith))
+
+module _ (s : List ℕ) where
+  place-fits : goodSite s ≡ true → (a : Address) → Tellable (placeTold (placedIn s a))
+  unfolding placedIn placeTold refused
+  place-fits good a = by-test (ltb (indexOfNumber s (a .volume) (a .partition)) (partitions s))
+      (λ y. rw y (place-on-fits _ a (site-partition s good _ (ltb-true _ _ y) .range)))
+      (λ n. rw n (omega arith))
+
+  pub placed-fits : (a : Address) → Tellable (placeTold (placedBy s a))
+  unfolding placedBy placeTold refused
+  placed-fits a = by-test (goodSite s) (λ y. rw y (place-fits y a)) (λ n. rw n (omega arith))
+
+  -- login and assign
+  login-fits : (q : Request) (w : List ℕ) → lowFirst (q .serial) < 2 ^ 32 → Tellable (loginAnswer q s w)
+  unfolding loginAnswer hasFree
+  login-fits q w small = by-test (hasFree w)
+      (λ y. rw y (omega (arith, ltb-true (lowestFree w) numbers y, flag-small (nameFound q s))))
+      (λ n. rw n (omega arith))
+
+  control-small : Bytes s → (at : ℕ) → rowAt s at .control < 256
+  unfolding rowAt
+  control-small b at = b (at + 17)
+
+  assign-fits : goodSite s ≡ true → Bytes s → (q : Request) → Tellable (assignAnswer q s)
+  unfolding assignAnswer assignable rowAnswer
+  assign-fits good b q = by-test (assignable q s)
+      (λ y.
+      let found : indexOfName s (q .name) < partitions s = ltb-true _ _ (and-left (ltb (indexOfName s (q .name)) (partitions s)) (zeros (q .password) || same (partitionPassword s (indexOfName s (q .name))) (q .password)) y) in
+      let r = ranged-is _ (site-partition s good _ found .range) in
+      rw y (omega (arith, r .most, r .partition, control-small b (partitionsFrom s + 24 * indexOfName s (q .name)), r .volume)))
+      (λ n. rw n (omega arith))
+
+-- a status
+lock-fits : (t : List ℕ) (n : ℕ) (x : LockString) → lockStatus t n x < 256
+unfolding lockStatus
+lock-fits t n x =
+    either (not (legal x)) 0x02 _ (omega arith)
+    (either (isOwn t n x) 0x81 _ (omega arith)
+    (either (isHeld t x) 0x01 _ (omega arith)
+    (either (not (any (freeAt t) (rowCount t))) 0x82 0x00 (omega arith) (omega arith))))
+
+unlock-fits : (t : List ℕ) (n : ℕ) (x : LockString) → unlockStatus t n x < 256
+unfolding unlockStatus
+unlock-fits t n x = either (unlocks t n x) 0x00 0x02 (omega arith) (omega arith)
+
+-- a refusal
+placed-small : (s : List ℕ) (a : Address) → placedIn s a .refusal < 256
+unfolding placedIn placedOn refused
+placed-small s a = by-test (ltb (indexOfNumber s (a .volume) (a .partition)) (partitions s))
+    (λ y. by-test (inside (partitionRow s (indexOfNumber s (a .volume) (a .partition))) a) (λ i. rw (y, i) (omega arith)) (λ o. rw (y, o) (omega arith)))
+    (λ m. rw m (omega arith))
+
+module _ (n : ℕ) (f s t w : List ℕ) where
+  refusal-small : refusal n f s t w < 256
+  unfolding refusal frameRefusal frameTests placeRefusal
+  refusal-small =
+      either (not (goodTables t w)) 11 _ (omega arith)
+      (either (not (goodSite s)) 10 _ (omega arith)
+      (either (eqb (length f) 0) 1 _ (omega arith)
+      (either (unknown n w) 2 _ (omega arith)
+      (either (eqb (frameLength (code f)) 0) 3 _ (omega arith)
+      (either (not (eqb (length f) (frameLength (code f)))) 4 _ (omega arith)
+      (either (misplaced n (code f)) 5 _ (omega arith)
+      (either (dtnSet f) 6 _ (omega arith)
+      (either (srcDiffers n f) 7 _ (omega arith)
+      (either (carriesAddress (code f)) (placedIn s (addressIn f) .refusal) 0 (placed-small s (addressIn f)) (omega arith))))))))))
+
+  site-good : refusal n f s t w ≡ 0 → goodSite s ≡ true
+  unfolding refusal
+  site-good z = by-test (goodSite s) (λ y. y) (λ m. by-test (goodTables t w) (λ g. absurd (omega (arith, rw (g, m) at z))) (λ g. absurd (omega (arith, rw g at z))))
+
+  -- what each command is answered
+  answer-fits : Bytes f → Bytes s → goodSite s ≡ true → Tellable (answerTo (requestIn f .command) (requestIn f) n s t w)
+  unfolding requestIn namedIn loginIn stringIn plain answerTo
+  answer-fits frame site good =
+      let P : Request → Type 0 = λ q. Tellable (answerTo (q .command) q n s t w) in
+      by-cond P (eqb (code f) READ) (place-fits s good (addressIn f))
+      (by-cond P (eqb (code f) WRITE) (place-fits s good (addressIn f))
+      (by-cond P (eqb (code f) LOGIN) (login-fits s (loginIn f) w (part-small f 15 4 frame))
+      (by-cond P (eqb (code f) ASSIGN) (assign-fits s good site (namedIn Assign f))
+      (by-cond P (eqb (code f) LOCK) (lock-fits t n (stringIn Lock f .string))
+      (by-cond P (eqb (code f) UNLOCK) (unlock-fits t n (stringIn Unlock f .string))
+      (by-cond P (eqb (code f) CLEAR) (omega arith)
+      (by-cond P (eqb (code f) LOGOUT) tt tt)))))))
+
+  pub frame-fits : Bytes f → Bytes s → Tellable (frameTold n f s t w)
+  unfolding frameTold
+  frame-fits frame site = by-eq (refusal n f s t w) 0
+      (λ z. rw z (answer-fits frame site (site-good z)))
+      (λ ne. rw (ne-eqb (refusal n f s t w) 0 ne) (omega (arith, refusal-small)))

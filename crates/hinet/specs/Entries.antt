@@ -1,0 +1,54 @@
+-- What each entry returns and leaves. n is the number polled, f the frame, s the site file, t the lock table, w the station records.
+use Prim.Native.Nat.{ℕ}
+use mathlib.Core.Path.{_≡_}
+use mathlib.Core.Bool.{Bool, cond, not}
+use lib.Dec.{eqb}
+use mathlib.Core.List.{List}
+use Rattle.terms.specs.declared.Address.{Address}
+use Rattle.site.specs.Rules.{goodSite}
+use Rattle.site.specs.Places.{placedBy}
+use Rattle.who.specs.Logins.{freshRecords}
+use Rattle.locks.specs.Good.{freshLocks}
+use Rattle.master.specs.Tables.{goodTables}
+use Rattle.master.specs.Answers.{Told}
+use Rattle.master.specs.Frames.{placeTold, frameTold, frameLocks, frameRecords}
+use Rattle.master.specs.Fresh.{sized, freshTold}
+use Rattle.master.specs.Polls.{pollTold, pollLocks, pollRecords}
+use Rattle.hinet.specs.Packing.{word, turnWord}
+
+-- the checks: 0 or the refusal
+unfoldable pub tablesWord : List ℕ → List ℕ → ℕ
+tablesWord t w = cond (goodTables t w) 0 11
+
+unfoldable pub siteWord : List ℕ → ℕ
+siteWord s = cond (goodSite s) 0 10
+
+-- the place of volume, partition, track and sector: any numbers, and none is cut
+unfoldable pub addressOf : ℕ → ℕ → ℕ → ℕ → Address
+addressOf v p t x = record { volume = record { 0 = v }; partition = record { 0 = p }; track = record { 0 = t }; sector = record { 0 = x } }
+
+unfoldable pub placeWord : List ℕ → Address → ℕ
+placeWord s a = word (placeTold (placedBy s a))
+
+-- an entry that is lent both tables: the word of what it tells, and the tables that it leaves
+pub record Tells (told : Told) (t w : List ℕ) (r : ℕ) (t′ w′ : List ℕ) : Type 0 where
+  pub answer : r ≡ word told
+  pub locks : t′ ≡ t
+  pub stations : w′ ≡ w
+
+-- fresh tables
+abbrev pub Freshened : List ℕ → List ℕ → ℕ → List ℕ → List ℕ → Type 0
+Freshened t w = Tells (freshTold t w) (cond (sized t w) freshLocks t) (cond (sized t w) freshRecords w)
+
+-- one frame
+abbrev pub Served : ℕ → List ℕ → List ℕ → List ℕ → List ℕ → ℕ → List ℕ → List ℕ → Type 0
+Served n f s t w = Tells (frameTold n f s t w) (frameLocks n f s t w) (frameRecords n f s t w)
+
+-- one poll turn; `heard` is 0 for not heard, any other number for heard
+unfoldable pub isHeard : ℕ → Bool
+isHeard n = not (eqb n 0)
+
+pub record Polled (n heard : ℕ) (t w : List ℕ) (r : ℕ) (t′ w′ : List ℕ) : Type 0 where
+  pub answer : r ≡ turnWord (pollTold n (isHeard heard) t w)
+  pub locks : t′ ≡ pollLocks n (isHeard heard) t w
+  pub stations : w′ ≡ pollRecords n (isHeard heard) t w
