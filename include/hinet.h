@@ -1,0 +1,393 @@
+/*
+ * hinet.h: the tables and decisions of a HiNet master, called from C.
+ *
+ * The C program owns the wire, the drives, the clock and the boot code. It
+ * lends its tables and frames to the entries below. Each entry returns one
+ * answer word. The library has no memory of its own: nothing is kept from
+ * one call to the next but the bytes in the lent tables.
+ *
+ * Numbers
+ *   A number is a uint32_t and is never cut to a byte. 509 is not 253; it is
+ *   refused.
+ *
+ * Slices
+ *   A slice is a pointer and then its length in bytes.
+ *   The slices of one call must not overlap.
+ *   A slice of length 0 still points somewhere. NULL is never allowed.
+ *   What is lent as const is never written.
+ *   Bytes need no alignment.
+ *
+ * Refusals
+ *   A refused call returns its refusal number and nothing else. Every lent
+ *   byte then holds what it held before. Where several refusals apply, the
+ *   first one in the order given with the entry is returned.
+ *
+ * The answer word
+ *   bits  0 to  7   refusal, 0 for none
+ *   bits  8 to 15   kind of answer
+ *   bits 16 to 63   bytes of the answer: the first in bits 16 to 23, the
+ *                   second in bits 24 to 31, and so on
+ *   Bits above the answer's own bytes are zero. A refused call has zeros
+ *   above bit 7. An entry with nothing to tell returns exactly 0.
+ *
+ * Numbers of more than one byte have their low byte first, in answers,
+ * frames, tables and the site file alike.
+ */
+#ifndef HINET_H
+#define HINET_H
+
+#include <stddef.h>
+#include <stdint.h>
+
+#ifdef __cplusplus
+extern "C" {
+#endif
+
+/* The refusal number of an answer, 0 for none. */
+static inline unsigned hinet_answer_refusal(uint64_t answer)
+{
+    return (unsigned)(answer & 0xFF);
+}
+
+/* The kind of an answer, one of HINET_KIND_... */
+static inline unsigned hinet_answer_kind(uint64_t answer)
+{
+    return (unsigned)(answer >> 8 & 0xFF);
+}
+
+/* Byte i of an answer, i from 0 to 5. */
+static inline uint8_t hinet_answer_byte(uint64_t answer, unsigned i)
+{
+    return (uint8_t)(answer >> (16 + 8 * i) & 0xFF);
+}
+
+/* ------------------------------------------------------------------------
+ * (a) Tables, site file, frames, places
+ * ------------------------------------------------------------------------
+ *
+ * Lock table: 64 rows of 16 bytes.
+ *   0       owner, or FF for a free row
+ *   1       length of the string, 1 to 13
+ *   2 - 14  string, zeros after its length
+ *   15      spare, zero
+ * A free row has owner FF and zeros. An owner is logged in. No two used rows
+ * hold the same string. Strings are the same when length and the first
+ * length bytes are equal.
+ *
+ * Station records: 64 records of 18 bytes, one per user number.
+ *   0       logged in, 0 or 1
+ *   1 - 2   misses, 0 to 255
+ *   3       slow turns, 0 to 11, and 0 while misses are below 160
+ *   4 - 11  name
+ *   12 - 15 serial
+ *   16      product
+ *   17      name found, 0 or 1
+ * Record 0 is the local user: logged in, all else zero. A record that is not
+ * logged in is zero throughout.
+ *
+ * Site file: a header, the user rows, the partition rows, and nothing after.
+ *   Header, 8 bytes: user count (2), user offset (2), partition count (2),
+ *   partition offset (2). At most 128 users and 64 partitions. The user
+ *   offset is 8, the partition offset is 8 + 16 * users.
+ *   User row, 16 bytes: name 8, password 6, OS number, size flag.
+ *   Partition row, 24 bytes: name 8, password 6, volume 0 to 3, partition
+ *   number 0 to 63, size code 1 to 6, control, first sector (4), two zeros.
+ * Size code n has 16 * 2^(n-1) tracks of 128 sectors of 128 bytes. First
+ * sector plus sectors is at most 1048576. No two users share a name. No two
+ * partitions share a name, or both volume and number. No two partitions on
+ * one volume overlap.
+ */
+
+#define HINET_LOCK_ROWS 64
+#define HINET_LOCK_ROW_BYTES 16
+#define HINET_LOCKS_BYTES 1024
+
+#define HINET_STATION_RECORDS 64
+#define HINET_STATION_RECORD_BYTES 18
+#define HINET_STATIONS_BYTES 1152
+
+#define HINET_SITE_USERS_MOST 128
+#define HINET_SITE_PARTITIONS_MOST 64
+#define HINET_SITE_BYTES_MOST 3592
+
+/* Owner of a free row of the lock table. */
+#define HINET_NO_OWNER 0xFF
+
+/* Numbers polled: the local user, the last station, the number for logins. */
+#define HINET_NUMBER_LOCAL 0
+#define HINET_NUMBER_LAST 63
+#define HINET_NUMBER_LOGIN 253
+
+/* Codes of request frames, and the length of each frame. */
+#define HINET_CODE_ACKNOWLEDGE 0x41
+#define HINET_CODE_READ 0x11
+#define HINET_CODE_WRITE 0x12
+#define HINET_CODE_LOGIN 0x13
+#define HINET_CODE_ASSIGN 0x17
+#define HINET_CODE_LOCK 0x19
+#define HINET_CODE_UNLOCK 0x1A
+#define HINET_CODE_CLEAR 0x1B
+#define HINET_CODE_LOGOUT 0x1F
+
+#define HINET_LENGTH_ACKNOWLEDGE 1
+#define HINET_LENGTH_READ 8
+#define HINET_LENGTH_WRITE 8
+#define HINET_LENGTH_LOGIN 20
+#define HINET_LENGTH_ASSIGN 15
+#define HINET_LENGTH_LOCK 15
+#define HINET_LENGTH_UNLOCK 15
+#define HINET_LENGTH_CLEAR 1
+#define HINET_LENGTH_LOGOUT 2
+
+/* Status bytes that answer lock, unlock and clear. */
+#define HINET_STATUS_DONE 0x00      /* lock granted, string freed, locks cleared */
+#define HINET_STATUS_TAKEN 0x01     /* lock: held by another */
+#define HINET_STATUS_NO 0x02        /* illegal length; unlock: not held by the sender */
+#define HINET_STATUS_HELD 0x81      /* lock: held by the sender already */
+#define HINET_STATUS_FULL 0x82      /* lock: no free row */
+
+/* Size code in the answer to an assign that was denied. */
+#define HINET_ASSIGN_DENIED 0xFF
+
+/* Refusal numbers of this section. */
+#define HINET_REFUSED_EMPTY 1       /* frame is empty */
+#define HINET_REFUSED_NUMBER 2      /* not 0 to 63 or 253, or not logged in */
+#define HINET_REFUSED_CODE 3        /* code is not one of the above */
+#define HINET_REFUSED_LENGTH 4      /* length is not that of the code */
+#define HINET_REFUSED_COMMAND 5     /* not at this number: login not at 253,
+                                       another command at 253, logout at 0 */
+#define HINET_REFUSED_DTN 6         /* dtn is not 0 */
+#define HINET_REFUSED_SRC 7         /* src differs from the number polled */
+#define HINET_REFUSED_NO_ROW 8      /* volume and partition name no row */
+#define HINET_REFUSED_OUTSIDE 9     /* track or sector outside the partition */
+#define HINET_REFUSED_SITE 10       /* site file */
+#define HINET_REFUSED_TABLES 11     /* tables of another size or with a breach */
+
+/* Kinds of answer of this section, with their bytes. */
+#define HINET_KIND_NONE 0           /* no bytes */
+#define HINET_KIND_STATUS 1         /* status */
+#define HINET_KIND_ASSIGN 2         /* size code, partition, control, volume */
+#define HINET_KIND_PLACE 3          /* volume, sector (4) */
+#define HINET_KIND_LOGIN 4          /* number, name found (0 or 1), serial (4) */
+
+/* Kind STATUS: one of HINET_STATUS_... */
+static inline uint8_t hinet_answer_status(uint64_t answer)
+{
+    return hinet_answer_byte(answer, 0);
+}
+
+/* Kind ASSIGN: the size code, or HINET_ASSIGN_DENIED. */
+static inline uint8_t hinet_answer_assign_size(uint64_t answer)
+{
+    return hinet_answer_byte(answer, 0);
+}
+
+/* Kind ASSIGN: the partition number. */
+static inline uint8_t hinet_answer_assign_partition(uint64_t answer)
+{
+    return hinet_answer_byte(answer, 1);
+}
+
+/* Kind ASSIGN: the control byte. */
+static inline uint8_t hinet_answer_assign_control(uint64_t answer)
+{
+    return hinet_answer_byte(answer, 2);
+}
+
+/* Kind ASSIGN: the volume. */
+static inline uint8_t hinet_answer_assign_volume(uint64_t answer)
+{
+    return hinet_answer_byte(answer, 3);
+}
+
+/* Kind PLACE: the volume. */
+static inline uint8_t hinet_answer_place_volume(uint64_t answer)
+{
+    return hinet_answer_byte(answer, 0);
+}
+
+/* Kind PLACE: the sector, counted from the start of the volume. */
+static inline uint32_t hinet_answer_place_sector(uint64_t answer)
+{
+    return (uint32_t)(answer >> 24 & 0xFFFFFFFFu);
+}
+
+/* Kind LOGIN: the user number given, 0 when 63 are in use. */
+static inline uint8_t hinet_answer_login_number(uint64_t answer)
+{
+    return hinet_answer_byte(answer, 0);
+}
+
+/* Kind LOGIN: 1 when a user row has the sent name and password, else 0. */
+static inline uint8_t hinet_answer_login_found(uint64_t answer)
+{
+    return hinet_answer_byte(answer, 1);
+}
+
+/* Kind LOGIN: the four serial bytes as sent. */
+static inline void hinet_answer_login_serial(uint64_t answer, uint8_t serial[4])
+{
+    unsigned i;
+    for (i = 0; i < 4; i++)
+        serial[i] = hinet_answer_byte(answer, 2 + i);
+}
+
+/*
+ * Fills fresh tables: 64 free rows, and only user 0 logged in.
+ *
+ * Refusals: 11 when locks_len is not 1024 or stations_len is not 1152. With
+ *   one size wrong neither table is touched.
+ * Memory: both tables are written whole.
+ * Answer: none (0).
+ */
+uint64_t hinet_fresh(uint8_t *locks, size_t locks_len,
+                     uint8_t *stations, size_t stations_len);
+
+/*
+ * Checks the running tables by the rules above.
+ *
+ * Refusals: 11 for another size or any breach.
+ * Memory: unchanged.
+ * Answer: none (0).
+ */
+uint64_t hinet_check_tables(const uint8_t *locks, size_t locks_len,
+                            const uint8_t *stations, size_t stations_len);
+
+/*
+ * Checks a site file by the rules above.
+ *
+ * Refusals: 10 for any breach.
+ * Memory: unchanged.
+ * Answer: none (0).
+ */
+uint64_t hinet_check_site(const uint8_t *site, size_t site_len);
+
+/*
+ * Serves one request frame that came at the number polled. The frame is the
+ * data part, without user number, CRC or flags.
+ *
+ *   41 acknowledge      41
+ *   11 read 128         11 dtn src dsk trk(2) sec vli
+ *   12 write 128        12 dtn src dsk trk(2) sec vli
+ *   13 login            13 name(8) password(6) serial(4) product
+ *   17 assign           17 name(8) password(6)
+ *   19 lock             19 len string(13)
+ *   1A unlock           1A len string(13)
+ *   1B clear all locks  1B
+ *   1F instant logout   1F src
+ *
+ * dtn is 0, dsk is the partition number, vli is the volume.
+ *
+ * Refusals, in this order:
+ *   11  tables
+ *   10  site file
+ *    1  frame is empty
+ *    2  number is not 0 to 63 or 253, or is 0 to 63 and not logged in;
+ *       every number above 255 is refused here too
+ *    3  unknown code
+ *    4  length differs from the code's
+ *    5  login not at 253, another command at 253, logout at 0
+ *    6  dtn is not 0 (read, write)
+ *    7  src differs from the number (read, write, logout)
+ *    8  volume and partition name no row (read, write)
+ *    9  track or sector outside the partition (read, write)
+ *
+ * Answer and memory, by command:
+ *   acknowledge  none (0); nothing changes.
+ *   read, write  PLACE; nothing changes. The C program moves the 128 bytes.
+ *   login        LOGIN. The lowest free number from 1 to 63 is logged in
+ *                with the sent name, serial and product. The C program adds
+ *                the login time. With 63 in use the number is 0, name found
+ *                is 0 and nothing changes; this is an answer, no refusal.
+ *   assign       ASSIGN of the row with that name, if its password is equal
+ *                or the sent one is six zeros. Otherwise FF 00 00 00; this
+ *                is an answer, no refusal. Nothing changes.
+ *   lock         STATUS. Length not 1 to 13: 02. Held by the sender: 81.
+ *                Held by another: 01. No free row: 82. Otherwise 00, and the
+ *                lowest free row is filled. Only 00 changes the table.
+ *   unlock       STATUS. A string of legal length held by the sender is
+ *                freed: 00. Anything else: 02, and nothing changes.
+ *   clear        STATUS 00. Every row of the sender is freed.
+ *   logout       none (0). The sender's rows are freed and its record is
+ *                cleared.
+ * A frame leaves misses and slow turns alone, except that login and logout
+ * set both to 0.
+ */
+uint64_t hinet_frame(uint32_t number,
+                     const uint8_t *frame, size_t frame_len,
+                     const uint8_t *site, size_t site_len,
+                     uint8_t *locks, size_t locks_len,
+                     uint8_t *stations, size_t stations_len);
+
+/*
+ * The place of an address: the row's volume, and first sector + track * 128
+ * + sector - 1. Sectors of a track are counted from 1 to 128.
+ *
+ * Refusals, in this order:
+ *   10  site file
+ *    8  volume and partition name no row; a volume or partition above 255
+ *       names none
+ *    9  track not below the row's tracks, or sector not 1 to 128; so is a
+ *       track above 65535 or a sector above 255
+ * Memory: unchanged.
+ * Answer: PLACE.
+ */
+uint64_t hinet_place(uint32_t volume, uint32_t partition,
+                     uint32_t track, uint32_t sector,
+                     const uint8_t *site, size_t site_len);
+
+/* ------------------------------------------------------------------------
+ * (b) Poll turns
+ * ------------------------------------------------------------------------
+ *
+ * In one exchange the poll turn is called before the frame: a logout frame
+ * ends the number, and a poll turn after it would be refused.
+ */
+
+/* Refusal number of this section. */
+#define HINET_REFUSED_NOT_DUE 12    /* heard in a turn that was not due */
+
+/* Kind of answer of this section, with its bytes. */
+#define HINET_KIND_TURN 5           /* due (0 or 1), logged out (0 or 1) */
+
+/* Kind TURN: 1 when the station was due in this turn, else 0. */
+static inline uint8_t hinet_answer_due(uint64_t answer)
+{
+    return hinet_answer_byte(answer, 0);
+}
+
+/* Kind TURN: 1 when the turn ended in a logout, else 0. */
+static inline uint8_t hinet_answer_out(uint64_t answer)
+{
+    return hinet_answer_byte(answer, 1);
+}
+
+/*
+ * Plays one poll turn of a station. heard is 0 for not heard; any other
+ * number is heard.
+ *
+ * With misses below 160 the station is due. From 160 on it is due where slow
+ * turns stand at 11, and they return to 0; in the other turns it is not due
+ * and slow turns go up by 1.
+ *
+ * Refusals, in this order:
+ *   11  tables
+ *    2  number is not 0 to 63 or 253, or is 0 to 63 and not logged in
+ *    5  number is 0 or 253
+ *   12  heard in a turn that was not due; slow turns stay too
+ * Memory: in the station's record
+ *   due, heard          misses and slow turns become 0
+ *   due, not heard      misses go up by 1; at 256 the station is logged out:
+ *                       its rows are freed and its record is cleared
+ *   not due, not heard  slow turns go up by 1
+ * Answer: TURN. A turn that ends in a logout says due 1, out 1.
+ */
+uint64_t hinet_poll(uint32_t number, uint32_t heard,
+                    uint8_t *locks, size_t locks_len,
+                    uint8_t *stations, size_t stations_len);
+
+#ifdef __cplusplus
+}
+#endif
+
+#endif

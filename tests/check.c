@@ -1,0 +1,287 @@
+#include "check.h"
+
+#include <stdio.h>
+#include <stdlib.h>
+#include <string.h>
+
+struct trace trace;
+static struct call last_call;
+
+/* ---- lent memory ---- */
+
+/* The first byte after a slice is 1: read by mistake, it says logged in. */
+static uint8_t canary(size_t i)
+{
+    return (uint8_t)(1 + 29 * i);
+}
+
+void lend(struct lent *slice, const uint8_t *bytes, size_t len)
+{
+    static unsigned shift;
+    shift = (shift + 3) % 8;
+    if (len > LENT_MOST)
+        fail("driver: slice too long");
+    slice->bytes = slice->store + MARGIN + shift;
+    slice->len = len;
+    uint8_t *front = slice->bytes - MARGIN, *back = slice->bytes + len;
+    for (size_t i = 0; i < MARGIN; i++)
+        front[i] = back[i] = canary(i);
+    memcpy(slice->bytes, bytes, len);
+    memcpy(slice->before, bytes, len);
+}
+
+void lend_again(struct lent *slice)
+{
+    memcpy(slice->before, slice->bytes, slice->len);
+}
+
+static int margins_whole(const struct lent *slice)
+{
+    const uint8_t *front = slice->bytes - MARGIN, *back = slice->bytes + slice->len;
+    for (size_t i = 0; i < MARGIN; i++)
+        if (front[i] != canary(i) || back[i] != canary(i))
+            return 0;
+    return 1;
+}
+
+static int unchanged(const struct lent *slice)
+{
+    return memcmp(slice->bytes, slice->before, slice->len) == 0;
+}
+
+/* ---- outcomes ---- */
+
+/* Refusals 1 to 15 have their own numbers as outcomes. */
+enum outcome {
+    NONE = 16,
+    STATUS_00, STATUS_01, STATUS_02, STATUS_81, STATUS_82,
+    ASSIGNED, ASSIGN_DENIED,
+    PLACE,
+    LOGIN_FOUND, LOGIN_UNKNOWN, LOGIN_FULL,
+    TURN_NOT_DUE, TURN_DUE, TURN_OUT,
+    WRITTEN_0, WRITTEN_1, WRITTEN_15,
+    OUTCOMES
+};
+
+static const char *const outcome_names[OUTCOMES] = {
+    [NONE] = "kind 0, none",
+    [STATUS_00] = "kind 1, status 00", [STATUS_01] = "kind 1, status 01",
+    [STATUS_02] = "kind 1, status 02", [STATUS_81] = "kind 1, status 81",
+    [STATUS_82] = "kind 1, status 82",
+    [ASSIGNED] = "kind 2, assigned", [ASSIGN_DENIED] = "kind 2, denied",
+    [PLACE] = "kind 3, place",
+    [LOGIN_FOUND] = "kind 4, name found", [LOGIN_UNKNOWN] = "kind 4, name not found",
+    [LOGIN_FULL] = "kind 4, 63 in use",
+    [TURN_NOT_DUE] = "kind 5, not due", [TURN_DUE] = "kind 5, due",
+    [TURN_OUT] = "kind 5, due and out",
+    [WRITTEN_0] = "kind 6, length 0", [WRITTEN_1] = "kind 6, length 1",
+    [WRITTEN_15] = "kind 6, length 15"
+};
+
+#define BIT(outcome) ((uint64_t)1 << (outcome))
+#define BITS(first, last) (BIT((last) + 1) - BIT(first))
+
+/* The entries and the outcomes each must be seen to have. */
+static const struct {
+    const char *name;
+    uint64_t outcomes;
+} entries[ENTRIES] = {
+    [ENTRY_FRESH] = { "hinet_fresh", BIT(11) | BIT(NONE) },
+    [ENTRY_CHECK_TABLES] = { "hinet_check_tables", BIT(11) | BIT(NONE) },
+    [ENTRY_CHECK_SITE] = { "hinet_check_site", BIT(10) | BIT(NONE) },
+    [ENTRY_FRAME] = { "hinet_frame", BITS(1, 11) | BITS(NONE, LOGIN_FULL) },
+    [ENTRY_PLACE] = { "hinet_place", BITS(8, 10) | BIT(PLACE) },
+    [ENTRY_POLL] = { "hinet_poll",
+        BIT(11) | BIT(2) | BIT(5) | BIT(12) | BITS(TURN_NOT_DUE, TURN_OUT) },
+};
+
+static unsigned long counts[ENTRIES][OUTCOMES];
+
+static unsigned answer_byte(uint64_t answer, unsigned i)
+{
+    return (unsigned)(answer >> (16 + 8 * i) & 0xFF);
+}
+
+static enum outcome status_outcome(uint64_t answer)
+{
+    switch (answer_byte(answer, 0)) {
+    case 0x00: return STATUS_00;
+    case 0x01: return STATUS_01;
+    case 0x02: return STATUS_02;
+    case 0x81: return STATUS_81;
+    case 0x82: return STATUS_82;
+    default:   return OUTCOMES;
+    }
+}
+
+static enum outcome login_outcome(uint64_t answer)
+{
+    if (answer_byte(answer, 0) == 0)
+        return LOGIN_FULL;
+    return answer_byte(answer, 1) != 0 ? LOGIN_FOUND : LOGIN_UNKNOWN;
+}
+
+static enum outcome turn_outcome(uint64_t answer)
+{
+    if (answer_byte(answer, 0) == 0)
+        return TURN_NOT_DUE;
+    return answer_byte(answer, 1) != 0 ? TURN_OUT : TURN_DUE;
+}
+
+static enum outcome written_outcome(uint64_t answer)
+{
+    switch (answer_byte(answer, 0)) {
+    case 0:  return WRITTEN_0;
+    case 1:  return WRITTEN_1;
+    case 15: return WRITTEN_15;
+    default: return OUTCOMES;
+    }
+}
+
+/* The outcome that an answer tells, or OUTCOMES for one that cannot be. */
+static enum outcome outcome_of(uint64_t answer)
+{
+    unsigned refusal = (unsigned)(answer & 0xFF);
+    if (refusal != 0)
+        return refusal <= 15 ? (enum outcome)refusal : OUTCOMES;
+    switch (answer >> 8 & 0xFF) {
+    case 0:  return NONE;
+    case 1:  return status_outcome(answer);
+    case 2:  return answer_byte(answer, 0) == 0xFF ? ASSIGN_DENIED : ASSIGNED;
+    case 3:  return PLACE;
+    case 4:  return login_outcome(answer);
+    case 5:  return turn_outcome(answer);
+    case 6:  return written_outcome(answer);
+    default: return OUTCOMES;
+    }
+}
+
+/* Are the bits above the answer's own bytes zero? */
+static int nothing_above(uint64_t answer)
+{
+    static const unsigned bytes[7] = { 0, 1, 4, 5, 6, 2, 1 };
+    unsigned kind = (unsigned)(answer >> 8 & 0xFF);
+    if ((answer & 0xFF) != 0)
+        return answer >> 8 == 0;
+    if (kind > 6)
+        return 0;
+    return bytes[kind] == 6 || answer >> (16 + 8 * bytes[kind]) == 0;
+}
+
+/* ---- a difference ---- */
+
+static void dump(const char *name, const uint8_t *bytes, size_t len)
+{
+    printf("%s, %lu bytes:", name, (unsigned long)len);
+    for (size_t i = 0; i < len; i++)
+        printf(i % 32 == 0 ? "\n  %02X" : " %02X", bytes[i]);
+    printf("\n");
+}
+
+static void dump_part(const struct part *part)
+{
+    const struct lent *lent = part->lent;
+    dump(part->name, lent->before, lent->len);
+    if (!margins_whole(lent))
+        printf("  a canary around it is broken\n");
+    for (size_t i = 0; i < lent->len; i++) {
+        uint8_t expected = part->expected != NULL ? part->expected[i] : lent->before[i];
+        if (lent->bytes[i] == expected)
+            continue;
+        printf("  byte %lu: library %02X, expected %02X\n",
+               (unsigned long)i, lent->bytes[i], expected);
+        break;
+    }
+}
+
+static void dump_call(const struct call *call)
+{
+    printf("%s\n", entries[call->entry].name);
+    for (unsigned i = 0; i < call->numbers; i++)
+        printf("number argument %u: %lu\n", i, (unsigned long)call->number[i]);
+    printf("answer of the library:   %016llX\n", (unsigned long long)call->library);
+    printf("answer of the reference: %016llX\n", (unsigned long long)call->reference);
+    for (unsigned i = 0; i < call->parts; i++)
+        dump_part(&call->part[i]);
+}
+
+void fail(const char *reason)
+{
+    printf("%s FAILED: %s\n", trace.driver, reason);
+    printf("seed %llu, round %lu, step %lu\n",
+           (unsigned long long)trace.seed, trace.round, trace.step);
+    dump_call(&last_call);
+    exit(1);
+}
+
+static void check_part(const struct call *call, const struct part *part)
+{
+    const struct lent *lent = part->lent;
+    if (!margins_whole(lent))
+        fail("wrote outside a slice");
+    if (part->expected == NULL && !unchanged(lent))
+        fail("wrote const memory");
+    if ((call->library & 0xFF) != 0 && !unchanged(lent))
+        fail("a refused call changed a byte");
+    if (part->expected != NULL && memcmp(lent->bytes, part->expected, lent->len) != 0)
+        fail("bytes differ from the reference");
+}
+
+void check_call(const struct call *call)
+{
+    last_call = *call;
+    trace.step++;
+    if (!nothing_above(call->library))
+        fail("the answer has bits above its bytes");
+    for (unsigned i = 0; i < call->parts; i++)
+        check_part(call, &call->part[i]);
+    if (call->library != call->reference)
+        fail("answers differ");
+    enum outcome outcome = outcome_of(call->library);
+    if (outcome == OUTCOMES || (entries[call->entry].outcomes & BIT(outcome)) == 0)
+        fail("an outcome that this entry does not have");
+    counts[call->entry][outcome]++;
+}
+
+void expect_refusal(unsigned refusal)
+{
+    if ((last_call.library & 0xFF) != refusal)
+        fail("not the refusal that this input was made for");
+}
+
+/* ---- start and end of a driver ---- */
+
+struct rounds rounds_from(int argc, char **argv, unsigned long usual)
+{
+    unsigned long count = argc > 1 ? strtoul(argv[1], NULL, 10) : usual;
+    struct rounds rounds;
+    rounds.first = argc > 2 ? strtoul(argv[2], NULL, 10) : 0;
+    rounds.end = rounds.first + count;
+    return rounds;
+}
+
+static void print_outcome(unsigned outcome, unsigned long count)
+{
+    if (outcome <= 15)
+        printf("  refusal %-19u %10lu\n", outcome, count);
+    else
+        printf("  %-27s %10lu\n", outcome_names[outcome], count);
+}
+
+int report(enum entry first, enum entry last)
+{
+    unsigned long calls = 0;
+    int missing = 0;
+    for (unsigned e = first; e <= last; e++) {
+        printf("%s\n", entries[e].name);
+        for (unsigned o = 1; o < OUTCOMES; o++) {
+            if ((entries[e].outcomes & BIT(o)) == 0)
+                continue;
+            print_outcome(o, counts[e][o]);
+            calls += counts[e][o];
+            missing += counts[e][o] == 0;
+        }
+    }
+    printf("%s: %lu calls compared, %d outcomes missing\n", trace.driver, calls, missing);
+    return missing == 0 ? 0 : 1;
+}

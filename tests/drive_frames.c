@@ -1,0 +1,469 @@
+/*
+ * Compares the library with the reference: fresh tables, the two checks,
+ * frames and places. Usage: drive_frames [rounds [first round]]
+ */
+#include "desk.h"
+#include "hinet.h"
+
+#include <stdio.h>
+#include <string.h>
+
+enum { SEED = 1983, ROUNDS = 38 };
+
+static struct rng rng;
+static struct site site;
+static struct tables tables;
+static struct frame frame;
+
+static void expect(int true_here, const char *reason)
+{
+    if (!true_here)
+        fail(reason);
+}
+
+/* ---- fresh tables, checks ---- */
+
+static void fresh_of_all_sizes(void)
+{
+    static const size_t locks[] = { 1024, 0, 1, 1008, 1023, 1025, 1040, 1152 };
+    static const size_t stations[] = { 1152, 0, 1, 1024, 1134, 1151, 1153, 1170 };
+    for (unsigned i = 0; i < 8; i++)
+        for (unsigned j = 0; j < 8; j++) {
+            rng_bytes(&rng, tables.locks, TABLE_ROOM);
+            rng_bytes(&rng, tables.stations, TABLE_ROOM);
+            tables.locks_len = locks[i];
+            tables.stations_len = stations[j];
+            desk_put_tables(&tables);
+            desk_fresh();
+            expect_refusal(i == 0 && j == 0 ? 0 : 11);
+        }
+}
+
+static void tables_give(unsigned refusal)
+{
+    desk_put_tables(&tables);
+    desk_check_tables();
+    expect_refusal(refusal);
+}
+
+static void site_gives(unsigned refusal)
+{
+    desk_put_site(&site);
+    desk_check_site();
+    expect_refusal(refusal);
+}
+
+static void sites(void)
+{
+    for (unsigned limit = 0; limit < SITE_LIMITS; limit++) {
+        site_at_limit(&rng, &site, (enum site_limit)limit);
+        site_gives(0);
+    }
+    for (unsigned damage = 0; damage < SITE_DAMAGES; damage++) {
+        site_damaged(&rng, &site, (enum site_damage)damage);
+        site_gives(10);
+    }
+    site_any(&rng, &site);
+    site_gives(0);
+    for (unsigned i = 0; i < 20; i++) {
+        site_scrambled(&rng, &site);
+        desk_put_site(&site);
+        desk_check_site();
+    }
+}
+
+static void tables_of_all_kinds(void)
+{
+    for (unsigned limit = 0; limit < TABLES_LIMITS; limit++) {
+        tables_at_limit(&rng, &tables, (enum tables_limit)limit);
+        tables_give(0);
+    }
+    for (unsigned damage = 0; damage < TABLES_DAMAGES; damage++) {
+        tables_damaged(&rng, &tables, (enum tables_damage)damage);
+        tables_give(11);
+    }
+    for (unsigned i = 0; i < 20; i++) {
+        tables_scrambled(&rng, &tables);
+        desk_put_tables(&tables);
+        desk_check_tables();
+    }
+}
+
+/* Any one byte of a small site file changed, good or not. */
+static void one_byte_of_site(void)
+{
+    site_good(&rng, &site, 3, 4, 2);
+    for (unsigned i = 0; i < site.len; i++) {
+        uint8_t change = rng_nonzero(&rng);
+        site.bytes[i] ^= change;
+        desk_put_site(&site);
+        desk_check_site();
+        site.bytes[i] ^= change;
+    }
+}
+
+/* Any one byte of fresh tables changed, but for a login, is a breach. */
+static void one_byte_of_fresh(void)
+{
+    tables_played(&rng, &tables, 0, 0);
+    for (unsigned i = 0; i < 1024 + 1152; i++) {
+        uint8_t change = (uint8_t)(2 + rng_below(&rng, 254));
+        uint8_t *byte = i < 1024 ? &tables.locks[i] : &tables.stations[i - 1024];
+        *byte ^= change;
+        tables_give(11);
+        *byte ^= change;
+    }
+}
+
+/* Each row in turn gets a field of the row before, of the first and of any. */
+static void repeat_field(uint8_t *rows, size_t row, unsigned count,
+                         size_t field, size_t len, void (*give)(unsigned), unsigned refusal)
+{
+    uint8_t kept[16];
+    for (unsigned i = 1; i < count; i++) {
+        unsigned earlier[3] = { i - 1, 0, rng_below(&rng, i) };
+        uint8_t *here = rows + row * i + field;
+        memcpy(kept, here, len);
+        for (unsigned k = 0; k < 3; k++) {
+            memcpy(here, rows + row * earlier[k] + field, len);
+            give(refusal);
+        }
+        memcpy(here, kept, len);
+    }
+}
+
+static void repeated_rows(void)
+{
+    tables_played(&rng, &tables, rng_below(&rng, 64), 64);
+    repeat_field(tables.locks, 16, 64, 1, 14, tables_give, 11);
+    site_good(&rng, &site, 128, 4, 2);
+    repeat_field(site.bytes + 8, 16, 128, 0, 8, site_gives, 10);
+    site_good(&rng, &site, 0, 64, 4);
+    repeat_field(site.bytes + 8, 24, 64, 0, 8, site_gives, 10);
+    repeat_field(site.bytes + 8, 24, 64, 14, 2, site_gives, 10);
+}
+
+/* ---- frames on damaged tables and damaged site files ---- */
+
+static uint32_t draw_frame(void)
+{
+    enum mood mood = (enum mood)rng_below(&rng, MOODS);
+    return next_frame(&rng, mood, &site, desk.ref_locks, desk.ref_stations, &frame);
+}
+
+static void frames_on_damage(void)
+{
+    for (unsigned damage = 0; damage < TABLES_DAMAGES; damage++) {
+        tables_damaged(&rng, &tables, (enum tables_damage)damage);
+        desk_put_tables(&tables);
+        site_any(&rng, &site);
+        desk_put_site(&site);
+        desk_frame(draw_frame(), &frame);
+        expect_refusal(11);
+        site_damaged(&rng, &site, (enum site_damage)rng_below(&rng, SITE_DAMAGES));
+        desk_put_site(&site);
+        frame_good(&rng, &frame, CODE_CLEAR, 0, &site);
+        desk_frame(number_any(&rng), &frame);
+        expect_refusal(11);
+    }
+    tables_any(&rng, &tables);
+    desk_put_tables(&tables);
+    for (unsigned damage = 0; damage < SITE_DAMAGES; damage++) {
+        site_any(&rng, &site);
+        uint32_t number = draw_frame();
+        site_damaged(&rng, &site, (enum site_damage)damage);
+        desk_put_site(&site);
+        desk_frame(number, &frame);
+        expect_refusal(10);
+    }
+    for (unsigned i = 0; i < 20; i++) {
+        tables_scrambled(&rng, &tables);
+        desk_put_tables(&tables);
+        site_any(&rng, &site);
+        uint32_t number = draw_frame();
+        if (rng_one_in(&rng, 3))
+            site_scrambled(&rng, &site);
+        desk_put_site(&site);
+        desk_frame(number, &frame);
+    }
+}
+
+/* ---- several faults at once, in all combinations ---- */
+
+/* An address: good, no such row, track outside, sectors outside. */
+static void set_address(unsigned kind)
+{
+    const uint8_t *row = site_partition(&site, 0);
+    frame.bytes[3] = row[15];
+    frame.bytes[4] = kind == 2 ? (uint8_t)(16 << (row[16] - 1) & 0xFF) : 0;
+    frame.bytes[5] = kind == 2 ? (uint8_t)(16 << (row[16] - 1) >> 8) : 0;
+    frame.bytes[6] = (uint8_t)(kind == 3 ? 0 : kind == 4 ? 129 : 1);
+    frame.bytes[7] = kind == 1 ? 4 : row[14];
+}
+
+/* All faults of one command at one number. */
+static void grid_of_faults(uint8_t code, uint32_t number)
+{
+    int disk = code == CODE_READ || code == CODE_WRITE;
+    for (unsigned faults = 0; faults <= FAULTS_ALL; faults++)
+        for (unsigned kind = 0; kind < (disk ? 5u : 1u); kind++) {
+            frame_good(&rng, &frame, code, number, &site);
+            if (disk)
+                set_address(kind);
+            frame_spoil(&rng, &frame, faults);
+            desk_frame(number, &frame);
+        }
+}
+
+static void grid_of_numbers(void)
+{
+    static const uint32_t numbers[] = {
+        0, 1, 2, 3, 63, 64, 252, 253, 254, 255, 256, 257, 509, 65789, 0xFFFFFFFFu
+    };
+    for (unsigned i = 0; i < sizeof numbers / sizeof *numbers; i++)
+        for (unsigned k = 0; k < CODES; k++)
+            grid_of_faults(codes[k], numbers[i]);
+}
+
+static void faults_together(void)
+{
+    site_good(&rng, &site, 2, 2, 2);
+    tables_played(&rng, &tables, 2, 5);
+    desk_put_tables(&tables);
+    desk_put_site(&site);
+    grid_of_numbers();
+    desk.site.bytes[2] = 9;
+    grid_of_numbers();
+    tables.locks[15] = 1;
+    desk_put_tables(&tables);
+    grid_of_numbers();
+    desk.site.bytes[2] = 8;
+    grid_of_numbers();
+}
+
+/* ---- all numbers, all codes, all lengths ---- */
+
+/* Every command at one number, each on the same tables. */
+static void commands_at(uint32_t number)
+{
+    site_good(&rng, &site, 2, 2, 1);
+    tables_played(&rng, &tables, rng_below(&rng, 64), 3);
+    desk_put_site(&site);
+    for (unsigned k = 0; k < CODES; k++) {
+        desk_put_tables(&tables);
+        frame_good(&rng, &frame, codes[k], number, &site);
+        desk_frame(number, &frame);
+    }
+}
+
+static void numbers_and_codes(void)
+{
+    static const uint32_t above[] = {
+        256, 257, 319, 509, 510, 511, 512, 65536, 65537, 65789, 0x01000000u,
+        0x80000000u, 0x80000001u, 0xFFFFFF00u, 0xFFFFFFFDu, 0xFFFFFFFFu
+    };
+    for (uint32_t number = 0; number < 256; number++)
+        commands_at(number);
+    for (unsigned i = 0; i < sizeof above / sizeof *above; i++)
+        commands_at(above[i]);
+    for (unsigned code = 0; code < 256; code++)
+        for (unsigned len = 0; len < 26; len++) {
+            rng_bytes(&rng, frame.bytes, FRAME_ROOM);
+            frame.bytes[0] = (uint8_t)code;
+            frame.bytes[1] = 0;
+            frame.len = len == 25 ? 255 : len;
+            desk_frame(number_logged_in(&rng, desk.ref_stations), &frame);
+            desk_frame(253, &frame);
+        }
+}
+
+/* ---- places ---- */
+
+static uint32_t near(uint32_t number)
+{
+    static const uint32_t odd[] = { 0, 1, 3, 4, 63, 64, 127, 128, 129, 255, 256, 257,
+        511, 512, 65535, 65536, 65537, 0x80000000u, 0xFFFFFFFFu };
+    switch (rng_below(&rng, 24)) {
+    case 0:  return number + 1;
+    case 1:  return number - 1;
+    case 2:  return number + 256;
+    case 3:  return number + 65536;
+    case 4:  return number ^ 0x80;
+    case 5:  return RNG_PICK(&rng, odd);
+    case 6:  return (uint32_t)rng_next(&rng);
+    default: return number;
+    }
+}
+
+/* Asks for places near the edges of a good site file's rows. */
+static void places_near(const struct site *good, unsigned count)
+{
+    unsigned rows = site_partitions(good);
+    for (unsigned i = 0; i < count; i++) {
+        if (rows == 0) {
+            desk_place(near(0), near(0), near(0), near(1));
+            continue;
+        }
+        const uint8_t *row = site_partition(good, rng_below(&rng, rows));
+        uint32_t tracks = (uint32_t)16 << (row[16] - 1);
+        uint32_t track = tracks - rng_below(&rng, 2);
+        uint32_t sector = 128 * rng_below(&rng, 2);
+        if (rng_one_in(&rng, 2))
+            track = rng_below(&rng, tracks);
+        if (rng_one_in(&rng, 2))
+            sector = 1 + rng_below(&rng, 128);
+        desk_place(near(row[14]), near(row[15]), near(track), near(sector));
+    }
+}
+
+static void places(void)
+{
+    for (unsigned i = 0; i < 12; i++) {
+        site_any(&rng, &site);
+        desk_put_site(&site);
+        places_near(&site, 150);
+    }
+    for (unsigned limit = 0; limit < SITE_LIMITS; limit++) {
+        site_at_limit(&rng, &site, (enum site_limit)limit);
+        desk_put_site(&site);
+        places_near(&site, 30);
+    }
+    for (unsigned damage = 0; damage < SITE_DAMAGES; damage++) {
+        struct site bad;
+        site_damaged(&rng, &bad, (enum site_damage)damage);
+        desk_put_site(&bad);
+        places_near(&site, 1);
+        expect_refusal(10);
+    }
+}
+
+/* ---- long runs from fresh tables ---- */
+
+/* What the header's inline functions tell must fit the frame. */
+static void header_agrees(uint64_t answer)
+{
+    uint8_t serial[4];
+    switch (hinet_answer_kind(answer)) {
+    case HINET_KIND_STATUS:
+        expect(hinet_answer_status(answer) == hinet_answer_byte(answer, 0), "header: status");
+        break;
+    case HINET_KIND_ASSIGN:
+        expect(hinet_answer_assign_size(answer) == HINET_ASSIGN_DENIED
+               || (hinet_answer_assign_size(answer) <= 6
+                   && hinet_answer_assign_partition(answer) <= 63
+                   && hinet_answer_assign_volume(answer) <= 3), "header: assign");
+        break;
+    case HINET_KIND_PLACE:
+        expect(hinet_answer_place_volume(answer) == frame.bytes[7], "header: volume");
+        expect(hinet_answer_place_sector(answer) < 1048576, "header: sector");
+        break;
+    case HINET_KIND_LOGIN:
+        hinet_answer_login_serial(answer, serial);
+        expect(memcmp(serial, frame.bytes + 15, 4) == 0, "header: serial");
+        expect(hinet_answer_login_number(answer) <= HINET_NUMBER_LAST, "header: number");
+        expect(hinet_answer_login_found(answer) <= 1, "header: name found");
+        break;
+    default:
+        break;
+    }
+}
+
+/* A frame with a site file that is no good leaves the run as it is. */
+static void bad_site_between(void)
+{
+    struct site bad;
+    site_damaged(&rng, &bad, (enum site_damage)rng_below(&rng, SITE_DAMAGES));
+    desk_put_site(&bad);
+    desk_frame(draw_frame(), &frame);
+    expect_refusal(10);
+    desk_put_site(&site);
+}
+
+static void run_from_fresh(unsigned steps)
+{
+    enum mood mood = MOOD_LOGINS;
+    tables_played(&rng, &tables, 0, 0);
+    desk_put_tables(&tables);
+    desk_fresh();
+    expect_refusal(0);
+    for (unsigned i = 0; i < steps; i++) {
+        if (i % 600 == 0) {
+            site_any(&rng, &site);
+            desk_put_site(&site);
+        }
+        if (rng_one_in(&rng, 120))
+            mood = (enum mood)rng_below(&rng, MOODS);
+        if (rng_one_in(&rng, 100)) {
+            memcpy(tables.stations, desk.ref_stations, sizeof tables.stations);
+            stations_aged(&rng, tables.stations);
+            desk_put_stations(tables.stations);
+        }
+        uint32_t number = next_frame(&rng, mood, &site, desk.ref_locks, desk.ref_stations, &frame);
+        header_agrees(desk_frame(number, &frame));
+        if (rng_one_in(&rng, 200))
+            bad_site_between();
+        if (i % 32 == 0) {
+            desk_check_tables();
+            expect_refusal(0);
+        }
+    }
+}
+
+/* ---- the header's numbers ---- */
+
+static void header_numbers(void)
+{
+    static const unsigned header[CODES][2] = {
+        { HINET_CODE_ACKNOWLEDGE, HINET_LENGTH_ACKNOWLEDGE },
+        { HINET_CODE_READ, HINET_LENGTH_READ },
+        { HINET_CODE_WRITE, HINET_LENGTH_WRITE },
+        { HINET_CODE_LOGIN, HINET_LENGTH_LOGIN },
+        { HINET_CODE_ASSIGN, HINET_LENGTH_ASSIGN },
+        { HINET_CODE_LOCK, HINET_LENGTH_LOCK },
+        { HINET_CODE_UNLOCK, HINET_LENGTH_UNLOCK },
+        { HINET_CODE_CLEAR, HINET_LENGTH_CLEAR },
+        { HINET_CODE_LOGOUT, HINET_LENGTH_LOGOUT }
+    };
+    site_good(&rng, &site, 128, 64, 4);
+    expect(site.len == HINET_SITE_BYTES_MOST, "header: site size");
+    for (unsigned k = 0; k < CODES; k++) {
+        frame_good(&rng, &frame, codes[k], 0, &site);
+        expect(frame.bytes[0] == header[k][0], "header: code");
+        expect(frame.len == header[k][1], "header: length");
+    }
+    tables_played(&rng, &tables, 0, 0);
+    expect(tables.locks_len == HINET_LOCKS_BYTES, "header: lock table size");
+    expect(tables.stations_len == HINET_STATIONS_BYTES, "header: station records size");
+    expect(tables.locks[0] == HINET_NO_OWNER, "header: owner of a free row");
+}
+
+static void one_round(void)
+{
+    for (unsigned i = 0; i < 4; i++) {
+        fresh_of_all_sizes();
+        sites();
+        tables_of_all_kinds();
+        frames_on_damage();
+    }
+    one_byte_of_fresh();
+    one_byte_of_site();
+    repeated_rows();
+    faults_together();
+    numbers_and_codes();
+    places();
+    run_from_fresh(12000);
+}
+
+int main(int argc, char **argv)
+{
+    struct rounds rounds = rounds_from(argc, argv, ROUNDS);
+    trace.driver = "drive_frames";
+    trace.seed = SEED;
+    header_numbers();
+    for (trace.round = rounds.first; trace.round < rounds.end; trace.round++) {
+        trace.step = 0;
+        rng = rng_from(((uint64_t)SEED << 32) + trace.round);
+        one_round();
+    }
+    return report(ENTRY_FRESH, ENTRY_PLACE);
+}

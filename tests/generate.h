@@ -1,0 +1,179 @@
+/*
+ * Seeded inputs: site files, frames and running tables, good ones and damaged
+ * ones. The same seed gives the same inputs everywhere.
+ */
+#ifndef GENERATE_H
+#define GENERATE_H
+
+#include <stddef.h>
+#include <stdint.h>
+
+/* ---- random numbers (splitmix64) ---- */
+
+struct rng {
+    uint64_t state;
+};
+
+struct rng rng_from(uint64_t seed);
+uint64_t rng_next(struct rng *rng);
+unsigned rng_below(struct rng *rng, unsigned count);    /* 0 to count - 1 */
+int rng_one_in(struct rng *rng, unsigned count);
+uint8_t rng_byte(struct rng *rng);
+uint8_t rng_nonzero(struct rng *rng);
+void rng_bytes(struct rng *rng, uint8_t *bytes, size_t count);
+
+/* One of the values of an array. */
+#define RNG_PICK(rng, array) \
+    ((array)[rng_below((rng), (unsigned)(sizeof (array) / sizeof *(array)))])
+
+/* ---- site files ---- */
+
+enum { SITE_ROOM = 4096 };
+
+struct site {
+    size_t len;
+    uint8_t bytes[SITE_ROOM];
+};
+
+/* A good file, its partitions on 1 to 4 volumes, some touching. */
+void site_good(struct rng *rng, struct site *site,
+               unsigned users, unsigned partitions, unsigned volumes);
+
+/* A good file of random counts; now and then the largest or an empty one. */
+void site_any(struct rng *rng, struct site *site);
+
+/* Good files that stand just inside one limit. */
+enum site_limit {
+    LIMIT_EMPTY, LIMIT_LARGEST, LIMIT_FULL_VOLUME, LIMIT_NUMBER_63,
+    LIMIT_ENDS_AT_LAST, LIMIT_TOUCHES_BELOW, LIMIT_TOUCHES_ABOVE,
+    LIMIT_NUMBER_ON_TWO_VOLUMES, LIMIT_SECTORS_ON_TWO_VOLUMES,
+    LIMIT_USER_NAMED_AS_PARTITION,
+    SITE_LIMITS
+};
+void site_at_limit(struct rng *rng, struct site *site, enum site_limit limit);
+
+/* Files that break one rule. */
+enum site_damage {
+    SITE_NO_BYTES, SITE_7_BYTES, SITE_SHORT_BY_1, SITE_LONG_BY_1,
+    SITE_USERS_129, SITE_USERS_HIGH_BYTE, SITE_USERS_65535,
+    SITE_PARTITIONS_65, SITE_PARTITIONS_HIGH_BYTE, SITE_PARTITIONS_65535,
+    SITE_USER_OFFSET_7, SITE_USER_OFFSET_9, SITE_USER_OFFSET_HIGH_BYTE,
+    SITE_PARTITION_OFFSET_LESS, SITE_PARTITION_OFFSET_MORE,
+    SITE_PARTITION_OFFSET_HIGH_BYTE,
+    SITE_VOLUME_4, SITE_VOLUME_128, SITE_NUMBER_64, SITE_NUMBER_255,
+    SITE_SIZE_0, SITE_SIZE_7, SITE_SIZE_255,
+    SITE_ENDS_1_BEYOND, SITE_FIRST_WRAPS, SITE_FIRST_HUGE,
+    SITE_SPARE_1, SITE_SPARE_2,
+    SITE_USER_TWICE, SITE_NAME_TWICE, SITE_NUMBER_TWICE,
+    SITE_OVERLAP_BELOW, SITE_OVERLAP_ABOVE, SITE_OVERLAP_INSIDE,
+    SITE_DAMAGES
+};
+void site_damaged(struct rng *rng, struct site *site, enum site_damage damage);
+
+/* A file with a few bytes changed, or of random bytes: good or not. */
+void site_scrambled(struct rng *rng, struct site *site);
+
+/* Rows of a good file. */
+unsigned site_users(const struct site *site);
+unsigned site_partitions(const struct site *site);
+const uint8_t *site_user(const struct site *site, unsigned i);
+const uint8_t *site_partition(const struct site *site, unsigned i);
+
+/* ---- frames ---- */
+
+enum { FRAME_ROOM = 256, CODES = 9 };
+
+struct frame {
+    size_t len;
+    uint8_t bytes[FRAME_ROOM];
+};
+
+enum {
+    CODE_ACKNOWLEDGE = 0x41, CODE_READ = 0x11, CODE_WRITE = 0x12,
+    CODE_LOGIN = 0x13, CODE_ASSIGN = 0x17, CODE_LOCK = 0x19,
+    CODE_UNLOCK = 0x1A, CODE_CLEAR = 0x1B, CODE_LOGOUT = 0x1F
+};
+extern const uint8_t codes[CODES];
+
+/* A well formed frame whose fields are drawn towards what the site has. */
+void frame_good(struct rng *rng, struct frame *frame, uint8_t code,
+                uint32_t number, const struct site *site);
+
+/* Faults of a frame; any of them together. */
+enum {
+    FAULT_EMPTY = 1, FAULT_CODE = 2, FAULT_SHORT = 4, FAULT_LONG = 8,
+    FAULT_DTN = 16, FAULT_SRC = 32, FAULTS_ALL = 63
+};
+void frame_spoil(struct rng *rng, struct frame *frame, unsigned faults);
+
+/* A lock string, length first, from a small pool of look-alikes. */
+enum { POOL = 156 };
+void pool_string(unsigned i, uint8_t string[14]);
+
+/* A string of the pool with stray bytes after it; now and then a bad length. */
+void legal_string(struct rng *rng, uint8_t string[14]);
+void any_string(struct rng *rng, uint8_t string[14]);
+void stray_bytes(struct rng *rng, uint8_t string[14]);
+
+/* What a run of frames is mostly about. */
+enum mood {
+    MOOD_MIXED, MOOD_LOGINS, MOOD_LOCKS, MOOD_CHURN, MOOD_DISK, MOOD_LEAVE,
+    MOOD_FAULTS,
+    MOODS
+};
+
+/* The next number and frame of a run, given the tables as they stand. */
+uint32_t next_frame(struct rng *rng, enum mood mood, const struct site *site,
+                    const uint8_t *locks, const uint8_t *stations, struct frame *frame);
+
+/* A number: mostly one that is logged in, or of every kind. */
+uint32_t number_logged_in(struct rng *rng, const uint8_t *stations);
+uint32_t number_any(struct rng *rng);
+
+/* ---- running tables ---- */
+
+enum { TABLE_ROOM = 1280 };
+
+struct tables {
+    size_t locks_len;
+    size_t stations_len;
+    uint8_t locks[TABLE_ROOM];
+    uint8_t stations[TABLE_ROOM];
+};
+
+/* Good tables, reached by logins, locks, unlocks and logouts from fresh. */
+void tables_played(struct rng *rng, struct tables *tables,
+                   unsigned logins, unsigned strings);
+void tables_any(struct rng *rng, struct tables *tables);
+
+/* Legal misses and slow turns for those logged in. */
+void stations_aged(struct rng *rng, uint8_t *stations);
+
+/* Good tables that stand just inside one limit. */
+enum tables_limit {
+    LIMIT_MISSES_255_SLOW_11, LIMIT_MISSES_160, LIMIT_MISSES_159,
+    LIMIT_LENGTH_13, LIMIT_PREFIX, LIMIT_ZERO_STRINGS, LIMIT_ROWS_64,
+    TABLES_LIMITS
+};
+void tables_at_limit(struct rng *rng, struct tables *tables, enum tables_limit limit);
+
+/* Tables that break one rule. */
+enum tables_damage {
+    LOCKS_NO_BYTES, LOCKS_SHORT_BY_1, LOCKS_LONG_BY_1,
+    LOCKS_SHORT_BY_ROW, LOCKS_LONG_BY_ROW,
+    STATIONS_NO_BYTES, STATIONS_SHORT_BY_1, STATIONS_LONG_BY_1,
+    STATIONS_SHORT_BY_RECORD, STATIONS_LONG_BY_RECORD,
+    MISSES_256, MISSES_65535, SLOW_12, SLOW_255, SLOW_AT_159, SLOW_AT_0,
+    LOGGED_IN_2, LOGGED_IN_255, FOUND_2, FOUND_255,
+    LOCAL_OUT, LOCAL_IN_2, LOCAL_TRACE, OUT_TRACE,
+    OWNER_OUT, OWNER_64, OWNER_253, OWNER_254,
+    LENGTH_0, LENGTH_14, LENGTH_255, BYTE_AFTER_STRING, SPARE_SET,
+    STRING_TWICE_ONE_OWNER, STRING_TWICE_TWO_OWNERS, FREE_TRACE, FREE_OWNER_254,
+    TABLES_DAMAGES
+};
+void tables_damaged(struct rng *rng, struct tables *tables, enum tables_damage damage);
+
+/* Good tables with a few bytes changed: good or not. */
+void tables_scrambled(struct rng *rng, struct tables *tables);
+
+#endif

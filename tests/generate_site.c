@@ -1,0 +1,394 @@
+/* Site files: good ones, ones at a limit, damaged ones. */
+#include "generate.h"
+
+#include <string.h>
+
+enum {
+    HEADER = 8, USER_ROW = 16, PARTITION_ROW = 24,
+    VOLUME = 14, NUMBER = 15, SIZE = 16, CONTROL = 17, FIRST = 18, SPARE = 22,
+    SMALLEST = 2048,            /* sectors of size code 1 */
+    VOLUME_SECTORS = 1048576
+};
+
+static void put16(uint8_t *bytes, unsigned number)
+{
+    bytes[0] = (uint8_t)(number & 0xFF);
+    bytes[1] = (uint8_t)(number >> 8 & 0xFF);
+}
+
+static void put32(uint8_t *bytes, uint32_t number)
+{
+    put16(bytes, number & 0xFFFF);
+    put16(bytes + 2, number >> 16);
+}
+
+static uint32_t sectors_of(unsigned size)
+{
+    return (uint32_t)1024 << size;
+}
+
+/* ---- rows ---- */
+
+unsigned site_users(const struct site *site)
+{
+    return site->bytes[0] | (unsigned)site->bytes[1] << 8;
+}
+
+unsigned site_partitions(const struct site *site)
+{
+    return site->bytes[4] | (unsigned)site->bytes[5] << 8;
+}
+
+static uint8_t *user(struct site *site, unsigned i)
+{
+    return site->bytes + HEADER + USER_ROW * i;
+}
+
+static uint8_t *partition(struct site *site, unsigned i)
+{
+    return site->bytes + HEADER + USER_ROW * site_users(site) + PARTITION_ROW * i;
+}
+
+const uint8_t *site_user(const struct site *site, unsigned i)
+{
+    return site->bytes + HEADER + USER_ROW * i;
+}
+
+const uint8_t *site_partition(const struct site *site, unsigned i)
+{
+    return site->bytes + HEADER + USER_ROW * site_users(site) + PARTITION_ROW * i;
+}
+
+static void swap_partitions(struct site *site, unsigned i, unsigned j)
+{
+    uint8_t row[PARTITION_ROW];
+    memcpy(row, partition(site, i), PARTITION_ROW);
+    memmove(partition(site, i), partition(site, j), PARTITION_ROW);
+    memcpy(partition(site, j), row, PARTITION_ROW);
+}
+
+/* ---- good files ---- */
+
+/* Different names: numbered ones, random ones, or ones that differ from a
+   common name (random, zero or blank) in one byte only. */
+static void draw_names(struct rng *rng, uint8_t *rows, size_t row, unsigned count)
+{
+    unsigned style = rng_below(rng, 5), place = rng_below(rng, 8);
+    uint8_t common[8];
+    rng_bytes(rng, common, 8);
+    if (style == 1)
+        memset(common, 0, 8);
+    if (style == 2)
+        memset(common, ' ', 8);
+    for (unsigned i = 0; i < count; i++) {
+        uint8_t *name = rows + row * i;
+        memcpy(name, style == 3 ? (const uint8_t *)"NAME    " : common, 8);
+        if (style == 3)
+            put16(name + 4, (unsigned)('A' + i / 16) | (unsigned)('a' + i % 16) << 8);
+        else if (style == 4)
+            rng_bytes(rng, name, 8);
+        else
+            name[place] = (uint8_t)(common[place] + i);
+    }
+}
+
+static void draw_password(struct rng *rng, uint8_t *password)
+{
+    switch (rng_below(rng, 4)) {
+    case 0:  memset(password, 0, 6); break;
+    case 1:  memset(password, ' ', 6); break;
+    case 2:  memcpy(password, "SECRET", 6); break;
+    default: rng_bytes(rng, password, 6); break;
+    }
+}
+
+/* The free sectors before a partition; none for about half of them. */
+static uint32_t draw_gap(struct rng *rng, uint32_t room)
+{
+    switch (rng_below(rng, 6)) {
+    case 0:  return room < 3 ? 0 : 1 + rng_below(rng, 2);
+    case 1:  return rng_below(rng, room / 4 + 1);
+    case 2:  return rng_one_in(rng, 4) ? room : 0;
+    default: return 0;
+    }
+}
+
+/* The largest size code up to a drawn one that fits. */
+static unsigned draw_size(struct rng *rng, uint32_t room)
+{
+    unsigned size = 1 + rng_below(rng, 6);
+    while (size > 1 && sectors_of(size) > room)
+        size--;
+    return size;
+}
+
+/* Lays count partitions from row index on along one volume. */
+static void lay_volume(struct rng *rng, struct site *site, unsigned index,
+                       unsigned count, unsigned volume)
+{
+    unsigned number = rng_below(rng, 64), step = 1 + 2 * rng_below(rng, 32);
+    uint32_t next = 0;
+    for (unsigned k = 0; k < count; k++) {
+        uint8_t *row = partition(site, index + k);
+        uint32_t room = VOLUME_SECTORS - next - (count - 1 - k) * SMALLEST;
+        unsigned size = draw_size(rng, room);
+        next += draw_gap(rng, room - sectors_of(size));
+        row[VOLUME] = (uint8_t)volume;
+        row[NUMBER] = (uint8_t)((number + step * k) % 64);
+        row[SIZE] = (uint8_t)size;
+        row[CONTROL] = rng_byte(rng);
+        put32(row + FIRST, next);
+        next += sectors_of(size);
+    }
+}
+
+/* The partitions are dealt out to the volumes and their rows are mixed. */
+static void lay_partitions(struct rng *rng, struct site *site,
+                           unsigned count, unsigned volumes)
+{
+    unsigned index = 0;
+    for (unsigned v = 0; v < volumes; v++) {
+        unsigned share = (count - index) / (volumes - v);
+        lay_volume(rng, site, index, share, v);
+        index += share;
+    }
+    for (unsigned i = 1; i < count; i++)
+        swap_partitions(site, i, rng_below(rng, i + 1));
+    draw_names(rng, partition(site, 0), PARTITION_ROW, count);
+    for (unsigned i = 0; i < count; i++)
+        draw_password(rng, partition(site, i) + 8);
+}
+
+void site_good(struct rng *rng, struct site *site,
+               unsigned users, unsigned partitions, unsigned volumes)
+{
+    memset(site->bytes, 0, SITE_ROOM);
+    put16(site->bytes, users);
+    put16(site->bytes + 2, HEADER);
+    put16(site->bytes + 4, partitions);
+    put16(site->bytes + 6, HEADER + USER_ROW * users);
+    site->len = HEADER + USER_ROW * users + PARTITION_ROW * partitions;
+    draw_names(rng, user(site, 0), USER_ROW, users);
+    for (unsigned i = 0; i < users; i++) {
+        draw_password(rng, user(site, i) + 8);
+        rng_bytes(rng, user(site, i) + 14, 2);
+    }
+    lay_partitions(rng, site, partitions, volumes);
+}
+
+void site_any(struct rng *rng, struct site *site)
+{
+    unsigned volumes = 1 + rng_below(rng, 4);
+    switch (rng_below(rng, 12)) {
+    case 0:  site_good(rng, site, 0, 0, volumes); break;
+    case 1:  site_good(rng, site, 128, 64, volumes); break;
+    case 2:  site_good(rng, site, rng_below(rng, 129), rng_below(rng, 65), volumes); break;
+    default: site_good(rng, site, rng_below(rng, 12), rng_below(rng, 12), volumes); break;
+    }
+}
+
+/* ---- at a limit ---- */
+
+/* Adds a row of size code 1 at the end; volume 3 is free for such rows. */
+static uint8_t *add_row(struct site *site, unsigned number, uint32_t first)
+{
+    unsigned count = site_partitions(site);
+    uint8_t *row = partition(site, count);
+    memset(row, 0, PARTITION_ROW);
+    memcpy(row, "\xE0 added ", 8);
+    row[7] = (uint8_t)number;
+    row[VOLUME] = 3;
+    row[NUMBER] = (uint8_t)number;
+    row[SIZE] = 1;
+    put32(row + FIRST, first);
+    put16(site->bytes + 4, count + 1);
+    site->len += PARTITION_ROW;
+    return row;
+}
+
+/* A file with rows on volumes 0 to 2 only. */
+static void with_volume_3_free(struct rng *rng, struct site *site)
+{
+    site_good(rng, site, rng_below(rng, 20), rng_below(rng, 40), 3);
+}
+
+/* Moves the added rows, the last ones, to any place among the others. */
+static void mix_rows(struct rng *rng, struct site *site)
+{
+    unsigned count = site_partitions(site);
+    for (unsigned i = count; i-- > 0 && i + 2 >= count;)
+        swap_partitions(site, i, rng_below(rng, count));
+}
+
+static void last_place(struct rng *rng, struct site *site, uint32_t beyond)
+{
+    unsigned size = 1 + rng_below(rng, 6);
+    uint8_t *row = add_row(site, 5, 0);
+    row[SIZE] = (uint8_t)size;
+    put32(row + FIRST, VOLUME_SECTORS - sectors_of(size) + beyond);
+}
+
+static void full_volume(struct rng *rng, struct site *site)
+{
+    site_good(rng, site, 3, 0, 1);
+    for (unsigned i = 0; i < 64; i++) {
+        uint8_t *row = add_row(site, i, i * sectors_of(4));
+        row[SIZE] = 4;
+    }
+}
+
+/* Two rows, the second of random size at a distance from the first's edge. */
+static void row_above(struct rng *rng, struct site *site, uint32_t overlap)
+{
+    unsigned size = 1 + rng_below(rng, 6);
+    uint8_t *row = add_row(site, 7, 100000);
+    row[SIZE] = (uint8_t)size;
+    add_row(site, 8, 100000 + sectors_of(size) - overlap)[SIZE] = (uint8_t)(1 + rng_below(rng, 6));
+}
+
+static void row_below(struct rng *rng, struct site *site, uint32_t overlap)
+{
+    unsigned size = 1 + rng_below(rng, 6);
+    add_row(site, 7, 100000)[SIZE] = (uint8_t)(1 + rng_below(rng, 6));
+    add_row(site, 8, 100000 - sectors_of(size) + overlap)[SIZE] = (uint8_t)size;
+}
+
+void site_at_limit(struct rng *rng, struct site *site, enum site_limit limit)
+{
+    with_volume_3_free(rng, site);
+    switch (limit) {
+    case LIMIT_EMPTY:         site_good(rng, site, 0, 0, 1); return;
+    case LIMIT_LARGEST:       site_good(rng, site, 128, 64, 1 + rng_below(rng, 4)); return;
+    case LIMIT_FULL_VOLUME:   full_volume(rng, site); return;
+    case LIMIT_NUMBER_63:     add_row(site, 63, 0); break;
+    case LIMIT_ENDS_AT_LAST:  last_place(rng, site, 0); break;
+    case LIMIT_TOUCHES_BELOW: row_below(rng, site, 0); break;
+    case LIMIT_TOUCHES_ABOVE: row_above(rng, site, 0); break;
+    case LIMIT_NUMBER_ON_TWO_VOLUMES:
+    case LIMIT_SECTORS_ON_TWO_VOLUMES:
+        site_good(rng, site, 3, 0, 1);
+        add_row(site, 9, 70000);
+        add_row(site, 10, limit == LIMIT_NUMBER_ON_TWO_VOLUMES ? 0 : 70000)[VOLUME] = 1;
+        if (limit == LIMIT_NUMBER_ON_TWO_VOLUMES)
+            partition(site, 1)[NUMBER] = 9;
+        break;
+    case LIMIT_USER_NAMED_AS_PARTITION:
+        site_good(rng, site, 3, 4, 2);
+        memcpy(user(site, 2), partition(site, 2), 14);
+        return;
+    default:
+        return;
+    }
+    mix_rows(rng, site);
+}
+
+/* ---- damaged ---- */
+
+static void damage_header(struct rng *rng, struct site *site, enum site_damage damage)
+{
+    site_good(rng, site, 1 + rng_below(rng, 20), 1 + rng_below(rng, 20), 3);
+    uint8_t *bytes = site->bytes;
+    switch (damage) {
+    case SITE_NO_BYTES:   site->len = 0; break;
+    case SITE_7_BYTES:    site_good(rng, site, 0, 0, 1); site->len = 7; break;
+    case SITE_SHORT_BY_1: site->len--; break;
+    case SITE_LONG_BY_1:  site->len++; break;
+    case SITE_USERS_129:  site_good(rng, site, 129, rng_below(rng, 40), 3); break;
+    case SITE_USERS_HIGH_BYTE:            bytes[1] = rng_nonzero(rng); break;
+    case SITE_USERS_65535:                put16(bytes, 65535); break;
+    case SITE_PARTITIONS_65:              site_good(rng, site, rng_below(rng, 40), 65, 4); break;
+    case SITE_PARTITIONS_HIGH_BYTE:       bytes[5] = rng_nonzero(rng); break;
+    case SITE_PARTITIONS_65535:           put16(bytes + 4, 65535); break;
+    case SITE_USER_OFFSET_7:              bytes[2]--; break;
+    case SITE_USER_OFFSET_9:              bytes[2]++; break;
+    case SITE_USER_OFFSET_HIGH_BYTE:      bytes[3] = rng_nonzero(rng); break;
+    case SITE_PARTITION_OFFSET_LESS:      put16(bytes + 6, 7 + USER_ROW * site_users(site)); break;
+    case SITE_PARTITION_OFFSET_MORE:      put16(bytes + 6, 9 + USER_ROW * site_users(site)); break;
+    default:                              bytes[7] ^= rng_nonzero(rng); break;
+    }
+}
+
+/* One partition row that is alone on volume 3 breaks one rule. */
+static void damage_row(struct rng *rng, struct site *site, enum site_damage damage)
+{
+    uint8_t *row = add_row(site, 3, 0);
+    switch (damage) {
+    case SITE_VOLUME_4:     row[VOLUME] = 4; break;
+    case SITE_VOLUME_128:   row[VOLUME] = 128; break;
+    case SITE_NUMBER_64:    row[NUMBER] = 64; break;
+    case SITE_NUMBER_255:   row[NUMBER] = 255; break;
+    case SITE_SIZE_0:       row[SIZE] = 0; break;
+    case SITE_SIZE_7:       row[SIZE] = 7; break;
+    case SITE_SIZE_255:     row[SIZE] = 255; break;
+    case SITE_FIRST_WRAPS:  put32(row + FIRST, 0u - sectors_of(1)); break;
+    case SITE_FIRST_HUGE:   put32(row + FIRST, 0u - 1 - rng_below(rng, 2047)); break;
+    case SITE_SPARE_1:      row[SPARE] = rng_nonzero(rng); break;
+    default:                row[SPARE + 1] = rng_nonzero(rng); break;
+    }
+}
+
+/* Two partition rows on volume 3 that are good one by one. */
+static void damage_pair(struct rng *rng, struct site *site, enum site_damage damage)
+{
+    uint8_t *first, *second;
+    switch (damage) {
+    case SITE_NAME_TWICE:
+    case SITE_NUMBER_TWICE:
+        first = add_row(site, 3, 0);
+        second = add_row(site, 4, 50000);
+        if (damage == SITE_NAME_TWICE)
+            memcpy(second, first, 8);
+        else
+            second[NUMBER] = first[NUMBER];
+        break;
+    case SITE_OVERLAP_BELOW:
+        row_below(rng, site, 1);
+        break;
+    case SITE_OVERLAP_ABOVE:
+        row_above(rng, site, 1);
+        break;
+    default:
+        add_row(site, 3, 4096)[SIZE] = 4;
+        add_row(site, 4, 4096 + 128 * rng_below(rng, 100));
+        break;
+    }
+}
+
+static void repeat_user(struct rng *rng, struct site *site)
+{
+    unsigned count = 2 + rng_below(rng, 127);
+    site_good(rng, site, count, rng_below(rng, 10), 2);
+    unsigned i = rng_below(rng, count);
+    unsigned j = (i + 1 + rng_below(rng, count - 1)) % count;
+    memcpy(user(site, i), user(site, j), 8);
+}
+
+void site_damaged(struct rng *rng, struct site *site, enum site_damage damage)
+{
+    if (damage < SITE_VOLUME_4) {
+        damage_header(rng, site, damage);
+    } else if (damage == SITE_USER_TWICE) {
+        repeat_user(rng, site);
+    } else {
+        with_volume_3_free(rng, site);
+        if (damage == SITE_ENDS_1_BEYOND)
+            last_place(rng, site, 1);
+        else if (damage < SITE_USER_TWICE)
+            damage_row(rng, site, damage);
+        else
+            damage_pair(rng, site, damage);
+        mix_rows(rng, site);
+    }
+}
+
+void site_scrambled(struct rng *rng, struct site *site)
+{
+    site_any(rng, site);
+    if (rng_one_in(rng, 8)) {
+        site->len = rng_below(rng, 200);
+        rng_bytes(rng, site->bytes, site->len);
+        return;
+    }
+    for (unsigned n = 1 + rng_below(rng, 3); n > 0; n--)
+        site->bytes[rng_below(rng, (unsigned)site->len)] ^= (uint8_t)(1u << rng_below(rng, 8));
+}

@@ -1,0 +1,31 @@
+/*
+ * A second statement of the rules in plain C. It shares no code and no
+ * constants with the library or its header.
+ */
+#ifndef REFERENCE_H
+#define REFERENCE_H
+
+#include <stddef.h>
+#include <stdint.h>
+
+/* Tables, site file, frames, places. */
+uint64_t ref_fresh(uint8_t *locks, size_t locks_len,
+                   uint8_t *stations, size_t stations_len);
+uint64_t ref_check_tables(const uint8_t *locks, size_t locks_len,
+                          const uint8_t *stations, size_t stations_len);
+uint64_t ref_check_site(const uint8_t *site, size_t site_len);
+uint64_t ref_frame(uint32_t number,
+                   const uint8_t *frame, size_t frame_len,
+                   const uint8_t *site, size_t site_len,
+                   uint8_t *locks, size_t locks_len,
+                   uint8_t *stations, size_t stations_len);
+uint64_t ref_place(uint32_t volume, uint32_t partition,
+                   uint32_t track, uint32_t sector,
+                   const uint8_t *site, size_t site_len);
+
+/* Poll turns. */
+uint64_t ref_poll(uint32_t number, uint32_t heard,
+                  uint8_t *locks, size_t locks_len,
+                  uint8_t *stations, size_t stations_len);
+
+#endif
