@@ -1,0 +1,30 @@
+-- The marked examples come out as 01 says, by computing.
+use mathlib.Core.Path.{_≡_, refl}
+use Rattle.rows.specs.Words.{all, any, first, sameAt, same, zeroAt, zeros}
+use Rattle.rows.specs.Rows.{part, put, copies, eachRow}
+use Rattle.rows.specs.Numbers.{lowFirst, lowBytes}
+use Rattle.terms.specs.Strings.{legal, key, sameString, normal}
+use Rattle.frames.specs.Table.{frameTable, lengthIn, frameLength, carriesAddress}
+use Rattle.frames.specs.Requests.{plain}
+use Rattle.frames.specs.Reading.{addressIn, namedIn, loginIn, stringIn, requestIn}
+use Rattle.site.specs.Layout.{users, userOffset, partitions, partitionOffset, nameAt, passwordAt, rowAt, spareAt}
+use Rattle.site.specs.Rules.{goodHeader, sameName, namedAt, nameAlone, tracks, sectors, ranged, numbered, partitionNumbered, numberAlone, meet, overlap, partitionsOverlap, sound, apart, goodPartition, goodSite}
+use Rattle.site.specs.Found.{userIs, hasUser, indexOfNumber}
+use Rattle.site.specs.Places.{inside, placeOn, refused, placedOn, placedIn}
+use Rattle.who.specs.Records.{flag, bytesOf, stationOf}
+use Rattle.who.specs.Good.{goodCounts, goodRecord, goodAt as goodNumber, goodRecords}
+use Rattle.who.specs.Logins.{loggedIn, freeNumber, lowestFree as lowestNumber, loggedInAs, afterLogin, afterLogout, freshRecords}
+use Rattle.locks.specs.Row.{owner, stringOf, isFree, rowOf, holds, freed}
+use Rattle.locks.specs.Table.{holdsAt, freeAt, ownerAt, heldAt, lowestFree, isHeld, isOwn, lockStatus, lockTable, unlocks as freesLock, unlockStatus, unlockTable, clearedTable}
+use Rattle.locks.specs.Good.{goodRow, goodAt, aloneAt, goodRows, goodLocks, freshLocks}
+use Rattle.master.specs.Tables.{goodTables}
+use Rattle.master.specs.Refusals.{unknown, misplaced, dtnSet, srcDiffers, placeRefusal, frameTests, frameRefusal, refusal}
+use Rattle.master.specs.Frames.{placeTold, hasFree, nameFound, loginAnswer, loginRecords, answerTo, locksBy, recordsBy, frameTold, frameLocks, frameRecords}
+use Rattle.who.specs.Turns.{isDue, missesAfter, slowAfter, isOut}
+use Rattle.master.specs.Polls.{stationAt, dueAt, outAt, pollRefusal, turnLocks, turnRecords, pollTold, pollLocks, pollRecords}
+use Rattle.examples.specs.Play.{played, said, allPlayed, allSaid}
+use Rattle.examples.specs.Marked.{partition, header, empty, one, two, reads, locks, unlocks, logsIn, string, used, fresh, silent, marked}
+
+pub marked-pass : allPlayed marked ≡ allSaid marked
+unfolding all any first sameAt same zeroAt zeros part put copies eachRow lowFirst lowBytes legal key sameString normal frameTable lengthIn frameLength carriesAddress plain addressIn namedIn loginIn stringIn requestIn users userOffset partitions partitionOffset nameAt passwordAt rowAt spareAt goodHeader sameName namedAt nameAlone tracks sectors ranged numbered partitionNumbered numberAlone meet overlap partitionsOverlap sound apart goodPartition goodSite userIs hasUser indexOfNumber inside placeOn refused placedOn placedIn flag bytesOf stationOf goodCounts goodRecord goodNumber goodRecords loggedIn freeNumber lowestNumber loggedInAs afterLogin afterLogout freshRecords owner stringOf isFree rowOf holds freed holdsAt freeAt ownerAt heldAt lowestFree isHeld isOwn lockStatus lockTable freesLock unlockStatus unlockTable clearedTable goodRow goodAt aloneAt goodRows goodLocks freshLocks goodTables unknown misplaced dtnSet srcDiffers placeRefusal frameTests frameRefusal refusal placeTold hasFree nameFound loginAnswer loginRecords answerTo locksBy recordsBy frameTold frameLocks frameRecords isDue missesAfter slowAfter isOut stationAt dueAt outAt pollRefusal turnLocks turnRecords pollTold pollLocks pollRecords played said allPlayed allSaid partition header empty one two reads locks unlocks logsIn string used fresh silent marked
+marked-pass = refl
