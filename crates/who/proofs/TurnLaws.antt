@@ -40,9 +40,10 @@ module _ (m s : ℕ) (good : goodCounts m s ≡ true) where
   c : Counts m s
   c = counts-is m s good
 
-  pub due-silent : isDue m s ≡ true → (missesAfter m s false ≡ m + 1) × (slowAfter m s ≡ 0)
+  -- heard at a due poll: both are 0; not heard: one miss more
+  pub due-counts : (heard : Bool) → isDue m s ≡ true → (missesAfter m s heard ≡ cond heard 0 (m + 1)) × (slowAfter m s ≡ 0)
   unfolding missesAfter slowAfter
-  due-silent y = rw y (refl, refl)
+  due-counts heard y = rw y (refl, refl)
 
   pub not-due : (heard : Bool) → isDue m s ≡ false → (missesAfter m s heard ≡ m) × (slowAfter m s ≡ s + 1)
   unfolding missesAfter slowAfter
@@ -54,10 +55,10 @@ module _ (m s : ℕ) (good : goodCounts m s ≡ true) where
   out-last = go (turning m s)
     where
       go : Turning m s → eqb (missesAfter m s false) 256 ≡ eqb (turnsLeft m s) 1
-      go (early l y) = rw (due-silent y .0, left-early m s l) (ne-eqb (m + 1) 256 (λ e. omega arith) ∙ sym (ne-eqb (1312 - m) 1 (λ e. omega arith)))
+      go (early l y) = rw (due-counts false y .0, left-early m s l) (ne-eqb (m + 1) 256 (λ e. omega arith) ∙ sym (ne-eqb (1312 - m) 1 (λ e. omega arith)))
       go (waiting l ne n) = rw (not-due false n .0, left-late m s l)
           (ne-eqb m 256 (λ e. omega (arith, c .few)) ∙ sym (ne-eqb (12 * (256 - m) - s) 1 (λ e. omega (arith, c .few, c .short))))
-      go (late l e y) = rw (due-silent y .0, left-late m s l, e)
+      go (late l e y) = rw (due-counts false y .0, left-late m s l, e)
           (iff _ _ (λ h. eq-eqb (12 * (256 - m) - 11) 1 (omega (arith, eqb-true (m + 1) 256 h))) (λ h. eq-eqb (m + 1) 256 (omega (arith, c .few, eqb-true (12 * (256 - m) - 11) 1 h))))
 
   -- a silent turn that does not log it out leaves one turn less, and counts in range
@@ -71,9 +72,9 @@ module _ (m s : ℕ) (good : goodCounts m s ≡ true) where
           (λ f. let h = ltb-false (m + 1) 160 f in rw (left-late (m + 1) 0 h) (omega arith))
 
       go : Turning m s → turnsLeft (missesAfter m s false) (slowAfter m s) + 1 ≡ turnsLeft m s
-      go (early l y) = rw (due-silent y .0, due-silent y .1, left-early m s l) (next l)
+      go (early l y) = rw (due-counts false y .0, due-counts false y .1, left-early m s l) (next l)
       go (waiting l ne h) = rw (not-due false h .0, not-due false h .1, left-late m s l, left-late m (s + 1) l) (omega (arith, c .few, c .short))
-      go (late l e y) = rw (due-silent y .0, due-silent y .1, left-late m s l, left-late (m + 1) 0 (omega arith), e) (omega (arith, c .few, eqb-false (m + 1) 256 (rw (due-silent y .0) at n)))
+      go (late l e y) = rw (due-counts false y .0, due-counts false y .1, left-late m s l, left-late (m + 1) 0 (omega arith), e) (omega (arith, c .few, eqb-false (m + 1) 256 (rw (due-counts false y .0) at n)))
 
   -- it is due while more than 1,152 turns are left, and then in each twelfth
   pub due-when : isDue m s ≡ (leb 1153 (turnsLeft m s) || eqb (turnsLeft m s % 12) 1)
@@ -99,7 +100,7 @@ module _ (m s : ℕ) (good : goodCounts m s ≡ true) where
 
           few : (b : Bool) → eqb (missesAfter m s b) 256 ≡ false → missesAfter m s b ≤ 255
           few true k′ = unfold missesAfter in rw y (lit≤ tt)
-          few false k′ = omega (arith, c .few, due-silent y .0, eqb-false (missesAfter m s false) 256 k′)
+          few false k′ = omega (arith, c .few, due-counts false y .0, eqb-false (missesAfter m s false) 256 k′)
 
       go : Turning m s → (h : Bool) → eqb (missesAfter m s h) 256 ≡ false → goodCounts (missesAfter m s h) (slowAfter m s) ≡ true
       go (early l y) h k = due-good y h k
