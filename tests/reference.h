@@ -7,6 +7,7 @@
 
 #include <stddef.h>
 #include <stdint.h>
+#include <stdio.h>
 
 /* Tables, site file, frames, places. */
 uint64_t ref_fresh(uint8_t *locks, size_t locks_len,
@@ -27,5 +28,8 @@ uint64_t ref_place(uint32_t volume, uint32_t partition,
 uint64_t ref_poll(uint32_t number, uint32_t heard,
                   uint8_t *locks, size_t locks_len,
                   uint8_t *stations, size_t stations_len);
+
+/* A line of the session program. */
+void ref_print_line(FILE *out, unsigned long index, uint8_t number, uint64_t answer);
 
 #endif

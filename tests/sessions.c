@@ -141,30 +141,6 @@ static void make_input(unsigned kind)
 
 /* ---- what the program must print ---- */
 
-static void print_answer(FILE *out, uint64_t answer)
-{
-    uint8_t bytes[6];
-    for (unsigned i = 0; i < 6; i++)
-        bytes[i] = (uint8_t)(answer >> (16 + 8 * i) & 0xFF);
-    switch (answer & 0xFFFF) {
-    case 1 << 8:
-        fprintf(out, "%02X", bytes[0]);
-        break;
-    case 2 << 8:
-        fprintf(out, "%02X%02X%02X%02X", bytes[0], bytes[1], bytes[2], bytes[3]);
-        break;
-    case 3 << 8:
-        fprintf(out, "%u:%lu", bytes[0], (unsigned long)(answer >> 24));
-        break;
-    case 4 << 8:
-        fprintf(out, "%02X%c", bytes[0], bytes[1] != 0 ? 'Y' : 'N');
-        break;
-    default:
-        fprintf(out, "-");
-        break;
-    }
-}
-
 static void print_session(FILE *out)
 {
     if (file.missing || ref_check_site(file.bytes, file.len) != 0) {
@@ -183,9 +159,7 @@ static void print_session(FILE *out)
         }
         uint64_t answer = ref_frame(record[0], record + 2, record[1], file.bytes, file.len,
                                     tables.locks, 1024, tables.stations, 1152);
-        fprintf(out, "%lu %02X %u ", index, record[0], (unsigned)(answer & 0xFF));
-        print_answer(out, answer);
-        fprintf(out, "\n");
+        ref_print_line(out, index, record[0], answer);
         at += 2 + (size_t)record[1];
     }
 }

@@ -1,0 +1,34 @@
+-- No line is longer than the room that is asked for it.
+use Prim.Native.Nat.{ℕ, _≤_}
+use native.Mathlib.Omega.{arith}
+use mathlib.Core.List.{[], _∷_}
+use lib.ListN.{length, length-append}
+use Rattle.master.specs.Answers.{Told, refuses, answers}
+use Rattle.lines.proofs.DigitLaws.{decimal-long}
+use Rattle.lines.specs.Line.{decimal, hexByte, answerText, refusalNumber, column, columns, lineText}
+
+pub answer-long : (t : Told) → length (answerText t) ≤ 41
+unfolding answerText hexByte
+answer-long (refuses k) = omega arith
+answer-long (answers []) = omega arith
+answer-long (answers (status ∷ [])) = omega arith
+answer-long (answers (volume ∷ sector ∷ [])) = simp length-append (omega (arith, decimal-long volume, decimal-long sector))
+answer-long (answers (number ∷ found ∷ serial ∷ [])) = omega arith
+answer-long (answers (size ∷ partition ∷ control ∷ volume ∷ more)) = omega arith
+
+-- a column of decimal digits, and one of a byte
+pub number-long : (n : ℕ) → length (column (decimal n)) ≤ 21
+unfolding column
+number-long n = simp length-append (omega (arith, decimal-long n))
+
+pub polled-long : (b : ℕ) → length (column (hexByte b)) ≤ 3
+unfolding column hexByte
+polled-long b = omega arith
+
+pub columns-long : (index number refusal : ℕ) → length (columns index number refusal) ≤ 45
+unfolding columns
+columns-long index number refusal = simp length-append (omega (arith, number-long index, polled-long number, number-long refusal))
+
+pub line-long : (index number : ℕ) (t : Told) → length (lineText index number t) ≤ 87
+unfolding lineText
+line-long index number t = simp length-append (omega (arith, columns-long index number (refusalNumber t), answer-long t))

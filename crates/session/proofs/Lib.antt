@@ -1,0 +1,5 @@
+pub mod RecordLaws
+pub mod PlayLaws
+pub mod KeepLaws
+pub mod TurnLaws
+pub mod Blocks

@@ -1,0 +1,35 @@
+/*
+ * The line that the session program prints for one record.
+ */
+#include "reference.h"
+
+static void print_answer(FILE *out, uint64_t answer)
+{
+    uint8_t bytes[6];
+    for (unsigned i = 0; i < 6; i++)
+        bytes[i] = (uint8_t)(answer >> (16 + 8 * i) & 0xFF);
+    switch (answer & 0xFFFF) {
+    case 1 << 8:
+        fprintf(out, "%02X", bytes[0]);
+        break;
+    case 2 << 8:
+        fprintf(out, "%02X%02X%02X%02X", bytes[0], bytes[1], bytes[2], bytes[3]);
+        break;
+    case 3 << 8:
+        fprintf(out, "%u:%lu", bytes[0], (unsigned long)(answer >> 24));
+        break;
+    case 4 << 8:
+        fprintf(out, "%02X%c", bytes[0], bytes[1] != 0 ? 'Y' : 'N');
+        break;
+    default:
+        fprintf(out, "-");
+        break;
+    }
+}
+
+void ref_print_line(FILE *out, unsigned long index, uint8_t number, uint64_t answer)
+{
+    fprintf(out, "%lu %02X %u ", index, number, (unsigned)(answer & 0xFF));
+    print_answer(out, answer);
+    fprintf(out, "\n");
+}
