@@ -30,19 +30,20 @@ struct side {
     uint64_t (*frame)(uint32_t, const uint8_t *, size_t, const uint8_t *, size_t,
                       uint8_t *, size_t, uint8_t *, size_t);
     uint64_t (*place)(uint32_t, uint32_t, uint32_t, uint32_t, const uint8_t *, size_t);
+    uint64_t (*poll)(uint32_t, uint32_t, uint8_t *, size_t, uint8_t *, size_t);
 };
 
 static const struct side library = {
-    "lib", hinet_check_tables, hinet_check_site, hinet_frame, hinet_place
+    "lib", hinet_check_tables, hinet_check_site, hinet_frame, hinet_place, hinet_poll
 };
 static const struct side reference = {
-    "ref", ref_check_tables, ref_check_site, ref_frame, ref_place
+    "ref", ref_check_tables, ref_check_site, ref_frame, ref_place, ref_poll
 };
 
 /* ---- the inputs ---- */
 
 static struct site site;                /* 128 users, 64 partitions */
-static struct tables empty, full;
+static struct tables empty, full, last;     /* last: full, and station 63 at its last turn */
 static uint8_t locks[LOCKS], stations[STATIONS];
 
 static void serve(struct tables *tables, uint32_t number, const struct frame *frame)
@@ -106,11 +107,14 @@ static void make_inputs(void)
     site_good(&rng, &site, 128, 64, 4);
     make_tables(&empty, 1, 0);
     make_tables(&full, 63, 64);
+    last = full;
+    last.stations[63 * 18 + 1] = 255;
+    last.stations[63 * 18 + 3] = 11;
 }
 
 /* ---- the cases ---- */
 
-enum what { NOTHING, CHECK_TABLES, CHECK_SITE, PLACE, FRAME };
+enum what { NOTHING, CHECK_TABLES, CHECK_SITE, PLACE, FRAME, POLL };
 
 struct bench_case {
     const char *name;
@@ -142,7 +146,10 @@ static const struct bench_case cases[] = {
     { "clear-empty", FRAME, &empty, CODE_CLEAR },
     { "clear-full", FRAME, &full, CODE_CLEAR },
     { "logout-empty", FRAME, &empty, CODE_LOGOUT },
-    { "logout-full", FRAME, &full, CODE_LOGOUT }
+    { "logout-full", FRAME, &full, CODE_LOGOUT },
+    { "poll-silent-empty", POLL, &empty, 0 },
+    { "poll-silent-full", POLL, &full, 0 },
+    { "poll-out-full", POLL, &last, 0 }
 };
 enum { CASES = sizeof cases / sizeof *cases };
 
@@ -151,7 +158,7 @@ static uint8_t number_of(const struct bench_case *c)
 {
     if (c->code == CODE_LOGIN)
         return 253;
-    return c->tables == &full ? 63 : 1;
+    return c->tables == &empty ? 1 : 63;
 }
 
 static void frame_of(const struct bench_case *c, struct frame *frame)
@@ -184,6 +191,7 @@ static uint64_t call_once(const struct side *side, const struct bench_case *c,
     case FRAME:        return side->frame(number_of(c), frame->bytes, frame->len,
                                           site.bytes, site.len,
                                           locks, LOCKS, stations, STATIONS);
+    case POLL:         return side->poll(number_of(c), 0, locks, LOCKS, stations, STATIONS);
     default:           return 0;
     }
 }
