@@ -71,10 +71,10 @@ columns index number refusal = column (decimal index) ++ (column (hexByte number
 unfoldable pub lineText : ℕ → ℕ → Told → List ℕ
 lineText index number t = columns index number (refusalNumber t) ++ (answerText t ++ (NEWLINE ∷ []))
 
--- the room that is asked for a line, which never takes all of it
+-- the room that is asked for a line, of which it never takes more than 87 bytes
 abbrev pub ROOM : ℕ
 ROOM = 96
 
--- the text is put down in l at `at`, the end is answered
+-- the text is put down in l at `at`, and its end is answered
 abbrev pub Writes : List ℕ → List ℕ → ℕ → ℕ → List ℕ → Type 0
 Writes text l at end l′ = Leaves (at + length text) (put l at text) end l′

@@ -58,14 +58,14 @@ module _ (s : List ℕ) where
     next-same = let z = sized (d .rest) y in
         rw (size-same (d .rest) b y, drop-append-le (recordSize (d .rest)) (d .rest) b (z .1), number-same (d .rest) b y, frame-same (d .rest) b y)
 
-  -- it takes bytes away
+  -- it takes bytes away from the input
   next-short : (d : Stand) → whole (d .rest) ≡ true → length (next s d .rest) < length (d .rest)
   unfolding next
   next-short d y = let z = sized (d .rest) y in rw length-drop (omega arith)
 
-  -- a bound on the records that is large enough does not matter
+  -- how many records are allowed does not matter where the input has no more
   enough : (n m : ℕ) (d : Stand) → length (d .rest) ≤ n → length (d .rest) ≤ m → playIn n s d ≡ playIn m s d
-  enough zero m d a b = sym (play-none s d m (nothing (d .rest) a) ∙ sym (play-none s d zero (nothing (d .rest) a)))
+  enough zero m d a b = play-none s d zero (nothing (d .rest) a) ∙ sym (play-none s d m (nothing (d .rest) a))
   enough (suc n) zero d a b = play-none s d (suc n) (nothing (d .rest) b) ∙ sym (play-none s d zero (nothing (d .rest) b))
   enough (suc n) (suc m) d a b = by-test (whole (d .rest))
       (λ y. let less = next-short d y in

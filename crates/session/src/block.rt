@@ -3,7 +3,6 @@ ghost use mathlib.Core.Path.{_≡_};
 ghost use Prim.Native.Nat.{_+_, _-_, _*_, _^_, _≤_, _<_};
 ghost use lib.ListN.{length, drop};
 ghost use Rattle.rows.specs.Rows.{part, over};
-ghost use Rattle.rows.specs.Outcomes.{Gives};
 ghost use Rattle.lines.specs.Line.{ROOM};
 ghost use Rattle.session.specs.Records.{wholeSize};
 ghost use Rattle.session.specs.Session.{Adds, Plays};
