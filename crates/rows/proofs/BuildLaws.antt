@@ -8,7 +8,7 @@ use mathlib.Core.Logic.{⊎-elim}
 use mathlib.Core.Bool.{true}
 use mathlib.Core.List.{List, [], _∷_, _++_, append-nil}
 use lib.Dec.{eqb}
-use lib.ListN.{length, drop, getD, set, replicate, length-append, length-replicate, getD-replicate, List·getD-append, drop-of-length-le, replicate-append-replicate}
+use lib.ListN.{length, take, drop, getD, set, replicate, length-append, length-replicate, getD-replicate, List·getD-append, drop-of-length-le, replicate-append-replicate}
 use lib.Seq.{drop-at, drop-cons, set-at, append-snoc, ext-getD, getD-at}
 use borrow.Author.Tests.{eqb-true, eq-eqb}
 use Rattle.rows.proofs.BoolLaws.{and-left, and-right, and-both}
@@ -80,3 +80,9 @@ drop-zeros n k h =
     ap (λ (m : ℕ). drop k (replicate m 0)) split
     ∙ ap (drop k) (sym (replicate-append-replicate k (n - k) 0))
     ∙ drop-at (replicate k 0) (replicate (n - k) 0) k (length-replicate k 0)
+
+-- the first k of n zeros
+pub take-zeros : (n k : ℕ) → k ≤ n → take k (replicate n 0) ≡ replicate {A = ℕ} k 0
+take-zeros n zero h = refl
+take-zeros zero (suc k) h = absurd (not-suc-le-zero h)
+take-zeros (suc n) (suc k) h = ap (λ (l : List ℕ). 0 ∷ l) (take-zeros n k (le-of-suc-le-suc h))

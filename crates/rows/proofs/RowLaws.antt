@@ -5,9 +5,9 @@ use native.Mathlib.Numerals.{add-one}
 use native.Mathlib.Omega.{arith}
 use mathlib.Core.Path.{_≡_, refl, sym, ap, _∙_, subst}
 use mathlib.Core.Logic.{_⊎_, inl, inr, ⊎-elim}
-use mathlib.Core.List.{List, _++_, append-nil, append-assoc}
-use lib.ListN.{length, take, drop, getD, length-append, length-take, length-drop, take-append-drop, drop-of-length-le, List·getD-append}
-use lib.Seq.{ext-getD, getD-take, getD-drop, getD-append-add, length-take-le, take-at, drop-at, take-all, take-append-le, drop-append-le, take-length, drop-drop}
+use mathlib.Core.List.{List, [], _∷_, _++_, append-nil, append-assoc}
+use lib.ListN.{length, take, drop, getD, replicate, length-append, length-take, length-drop, take-append-drop, drop-of-length-le, List·getD-append}
+use lib.Seq.{ext-getD, getD-take, getD-drop, getD-append-add, length-take-le, take-at, drop-at, take-all, take-append-le, drop-append-le, drop-append-add, take-length, drop-drop}
 use borrow.Author.Tests.{ltb-true, ltb-false}
 use lib.Dec.{ltb}
 use Rattle.rows.proofs.BoolLaws.{by-test}
@@ -57,6 +57,21 @@ pub part-append : (a b : List ℕ) (at n : ℕ) → at + n ≤ length a → part
 unfolding part
 part-append a b at n h =
     rw (drop-append-le at a b (omega arith), take-append-le n (drop at a) b (simp length-drop (omega arith)))
+
+-- a part that lies in the second of two lists, one before a cut and one behind it
+pub part-right : (a b : List ℕ) (at n : ℕ) → length a ≤ at → part (a ++ b) at n ≡ part b (at - length a) n
+unfolding part
+part-right a b at n h =
+    let e : at ≡ length a + (at - length a) = omega arith in
+    ap (λ (k : ℕ). take n (drop k (a ++ b))) e ∙ rw (drop-append-add a b (at - length a))
+
+pub part-take : (l : List ℕ) (k at n : ℕ) → at + n ≤ k → k ≤ length l → part (take k l) at n ≡ part l at n
+part-take l k at n h fits =
+    sym (part-append (take k l) (drop k l) at n (omega (arith, length-take-le k l fits))) ∙ rw (take-append-drop k l)
+
+pub part-drop : (l : List ℕ) (k at n : ℕ) → part (drop k l) at n ≡ part l (k + at) n
+unfolding part
+part-drop l k at n = rw (drop-drop at k l)
 
 -- all of p copied over bytes that are no more
 pub copied-over : (p d : List ℕ) → length d ≤ length p → take (length p) p ++ drop (length p) d ≡ p
@@ -110,6 +125,25 @@ unfolding put part
 put-part l at n h =
     let long : length (take n (drop at l)) ≡ n = simp (length-take, length-drop) (omega arith) in
     rw (long, take-append-drop) (take-append-drop at l)
+
+-- a part put down behind another one, and one that reaches to the end
+pub put-next : (l p q : List ℕ) (at end : ℕ) → at + length p ≡ end → end + length q ≤ length l → put (put l at p) end q ≡ put l at (p ++ q)
+unfolding put
+put-next l p q at end h fits =
+    let rest = drop end l in
+    let long : length (take at l ++ p) ≡ end = length-append (take at l) p ∙ omega (arith, length-take-le at l (omega arith)) in
+    let laid : put l at p ≡ (take at l ++ p) ++ rest = rw (drop-drop, h) (sym (append-assoc (take at l) p rest)) in
+    rw (laid, take-at (take at l ++ p) rest end long, drop-at (take at l ++ p) rest end long, length-append p q, ← drop-drop (length q) (length p) (drop at l), drop-drop (length p) at l, h)
+    (rw (append-assoc p q, append-assoc (take at l) p))
+
+pub put-last : (l p : List ℕ) (at : ℕ) → length l ≡ at + length p → put l at p ≡ take at l ++ p
+unfolding put
+put-last l p at h = rw (drop-drop, drop-of-length-le l {i = at + length p} (omega arith), append-nil p)
+
+-- a part put down where the second of two lists begins
+pub put-behind : (a b p : List ℕ) (at : ℕ) → length a ≡ at → put (a ++ b) at p ≡ a ++ over p b
+unfolding put
+put-behind a b p at h = rw (take-at a b at h, drop-at a b at h)
 
 -- what was put down so far, over the front of the bytes: its begin, and one more part
 pub over-first : (l p : List ℕ) → put l 0 p ≡ over p l
@@ -221,3 +255,14 @@ pub copies-front : (n : ℕ) (r : List ℕ) → copies (suc n) r ≡ r ++ copies
 unfolding copies
 copies-front zero r = sym (append-nil r)
 copies-front (suc n) r = ap (λ (l : List ℕ). l ++ r) (copies-front n r) ∙ append-assoc r (copies n r) r
+
+-- copies of one byte, and all of n bytes filled with it
+copies-byte : (n a : ℕ) → copies n (a ∷ []) ≡ replicate n a
+unfolding copies
+copies-byte zero a = refl
+copies-byte (suc n) a = copies-front n (a ∷ []) ∙ ap (λ (l : List ℕ). a ∷ l) (copies-byte n a)
+
+pub filled : (l : List ℕ) (n a : ℕ) → length l ≡ n → over (copies n (a ∷ [])) l ≡ replicate n a
+filled l n a h =
+    rw (drop-of-length-le l {i = length (copies n (a ∷ []))} (omega (arith, length-copies n (a ∷ []))))
+    (append-nil (copies n (a ∷ [])) ∙ copies-byte n a)

@@ -1,15 +1,15 @@
 -- The laws of lock strings. Two strings are the same exactly when their normal forms are equal.
-use Prim.Native.Nat.{ℕ, min, _≤_}
+use Prim.Native.Nat.{ℕ, min, _-_, _≤_}
 use native.Mathlib.Omega.{arith}
 use mathlib.Core.Path.{_≡_, refl, sym, ap, _∙_}
 use mathlib.Core.Bool.{true, _&&_}
 use mathlib.Core.List.{append-nil}
 use lib.Dec.{eqb, leb}
 use lib.ListN.{length, take, drop, replicate, length-take, drop-of-length-le}
-use lib.Seq.{take-at, take-all}
+use lib.Seq.{take-at, take-all, drop-at}
 use borrow.Author.Tests.{eqb-true, eq-eqb, leb-true, leb-false}
 use Rattle.rows.proofs.BoolLaws.{by-test, and-left, and-right, and-both}
-use Rattle.rows.proofs.BuildLaws.{same-is, same-refl}
+use Rattle.rows.proofs.BuildLaws.{same-is, same-refl, drop-zeros}
 use Rattle.rows.proofs.RowLaws.{length-over}
 use Rattle.rows.specs.Words.{same}
 use Rattle.rows.specs.Rows.{over}
@@ -115,3 +115,12 @@ module _ (s : LockString) (full : length (s .bytes) ≡ 13) where
 
   pub same-string-normal : (x : LockString) → sameString (normal s) x ≡ sameString s x
   same-string-normal x = same-string-left (normal s) s x normal-is-same
+
+  -- zeros follow a string of legal length
+  pub normal-rest : s .len ≤ 13 → drop (s .len) (normal s .bytes) ≡ replicate (13 - s .len) 0
+  unfolding normal
+  normal-rest short =
+      let long : length (key s) ≡ s .len = length-key s ∙ omega arith in
+      drop-at (key s) (drop (length (key s)) (replicate 13 0)) (s .len) long
+      ∙ ap (λ (k : ℕ). drop k (replicate 13 0)) long
+      ∙ drop-zeros 13 (s .len) short

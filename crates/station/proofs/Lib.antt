@@ -1,0 +1,9 @@
+pub mod PlaceLaws
+pub mod GoodLaws
+pub mod ListLaws
+pub mod ListedLaws
+pub mod StateLaws
+pub mod WaitLaws
+pub mod Cases
+pub mod Keeps
+pub mod Outcomes

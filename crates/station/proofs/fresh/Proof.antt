@@ -1,0 +1,32 @@
+use denote.Ref.{now}
+use mathlib.Core.Path.{sym, _∙_}
+use borrow.Author.Tests.{eq-eqb, ne-eqb}
+use lib.ListN.{replicate-append-replicate}
+use Rattle.rows.proofs.RowLaws.{filled}
+use Rattle.station.specs.Asks.{freshState}
+use borrow.Author.Needs.{needs}
+use Rattle.station.proofs.fresh.Statement.{statement}
+use Rattle.station.proofs.fresh.Tie as tie
+
+returns : tie.Need-returns
+returns c = let other = ne-eqb _ _ (c .if1 .taken) in record { answer = rw other; left = rw other }
+
+slice-aggregate-fill : tie.Need-slice-aggregate-fill
+slice-aggregate-fill c = search needs
+
+fill-requires : tie.Need-fill-requires
+fill-requires c κs = search needs
+
+same-length : tie.Need-same-length
+same-length c = search needs
+
+returns-2 : tie.Need-returns-2
+unfolding freshState
+returns-2 c = let sized = c .before .before .before .before .before .if1 .left in
+    record {
+      answer = rw (eq-eqb _ _ sized);
+      left = rw (eq-eqb _ _ sized) (c .before .before .fill .ensures ∙ filled (now (c .before .before .before .before .before .before .before .args .state)) 911 0 sized ∙ sym (replicate-append-replicate 896 15 0));
+    }
+
+pub fresh-spec : {M : Type 1} → statement M
+fresh-spec = tie.close (tie.spec returns slice-aggregate-fill fill-requires same-length returns-2)

@@ -1,0 +1,75 @@
+-- What a station asks, and the frame it then sends until a reply comes.
+use Prim.Native.Nat.{ℕ}
+use mathlib.Core.Path.{_≡_}
+use mathlib.Core.Bool.{Bool, cond, not, _&&_}
+use mathlib.Core.List.{List, [], _∷_, _++_}
+use lib.Dec.{eqb, ltb}
+use lib.ListN.{length, replicate}
+use Rattle.rows.specs.Rows.{over}
+use Rattle.terms.specs.declared.LockString.{LockString}
+use Rattle.terms.specs.Strings.{legal}
+use Rattle.frames.specs.declared.Command.{Command}
+use Rattle.frames.specs.declared.Command.the-variants.{Lock, Unlock, Clear}
+use Rattle.frames.specs.Table.{LOCK, UNLOCK, CLEAR}
+use Rattle.station.specs.declared.Sent.{Sent}
+use Rattle.station.specs.State.{listLength, listOf, waitOf, isListed, placeOf, struckAt, codeIn, askedIn, nothing}
+use Rattle.station.specs.Good.{goodState}
+
+-- a reply is awaited
+unfoldable pub waits : List ℕ → Bool
+waits st = not (eqb (codeIn (waitOf st)) 0)
+
+-- 11 the state, 14 the station asks while waiting
+unfoldable pub askRefusal : List ℕ → ℕ
+askRefusal st = cond (not (goodState st)) 11 (cond (waits st) 14 0)
+
+-- the string struck from the list; one of illegal length strikes nothing
+unfoldable pub struck : List ℕ → LockString → List ℕ
+struck l x = cond (legal x && isListed l x) (struckAt l (placeOf l x)) l
+
+-- the 15 bytes to await
+unfoldable pub awaited : ℕ → LockString → List ℕ
+awaited code x = code ∷ x .len ∷ x .bytes
+
+abbrev pub awaitedClear : List ℕ
+awaitedClear = CLEAR ∷ replicate 14 0
+
+-- lock asks and lists nothing; unlock strikes the string when asked; clear empties the list when asked
+unfoldable pub afterLock : List ℕ → LockString → List ℕ
+afterLock st x = listOf st ++ awaited LOCK x
+
+unfoldable pub afterUnlock : List ℕ → LockString → List ℕ
+afterUnlock st x = struck (listOf st) x ++ awaited UNLOCK x
+
+unfoldable pub afterClear : List ℕ
+afterClear = replicate listLength 0 ++ awaitedClear
+
+-- what an ask gives and leaves: 0 and the state after it, or the refusal and the state as it was
+pub record Asks (st after : List ℕ) (r : ℕ) (st′ : List ℕ) : Type 0 where
+  pub answer : r ≡ askRefusal st
+  pub left : st′ ≡ cond (eqb (askRefusal st) 0) after st
+
+-- fresh, and at each login: an empty list and no reply awaited
+unfoldable pub freshState : List ℕ
+freshState = replicate listLength 0 ++ nothing
+
+-- the command with this code
+unfoldable pub commandFor : ℕ → Command
+commandFor code = cond (eqb code LOCK) Lock (cond (eqb code UNLOCK) Unlock Clear)
+
+-- the frame awaited: its code and its fields
+unfoldable pub frameAwaited : List ℕ → List ℕ
+frameAwaited v = cond (eqb (codeIn v) 0) [] (cond (eqb (codeIn v) CLEAR) (CLEAR ∷ []) v)
+
+-- 11 the state, 13 the buffer is too short for the frame
+unfoldable pub sendRefusal : List ℕ → ℕ → ℕ
+sendRefusal st n = cond (not (goodState st)) 11 (cond (ltb n (length (frameAwaited (waitOf st)))) 13 0)
+
+unfoldable pub sentOf : List ℕ → ℕ → Sent
+sentOf st n =
+    cond (eqb (sendRefusal st n) 0)
+    (record { refusal = 0; length = length (frameAwaited (waitOf st)) })
+    (record { refusal = sendRefusal st n; length = 0 })
+
+unfoldable pub bufferAfter : List ℕ → List ℕ → List ℕ
+bufferAfter st b = cond (eqb (sendRefusal st (length b)) 0) (over (frameAwaited (waitOf st)) b) b

@@ -1,0 +1,4 @@
+pub mod State
+pub mod Good
+pub mod Asks
+pub mod Replies

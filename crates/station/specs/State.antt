@@ -1,0 +1,68 @@
+-- A station's state: the places of its list, 14 bytes each (length, 13 bytes; length 0 is unused), then the 15 bytes of the frame awaited.
+use Prim.Native.Nat.{ℕ, _+_, _*_, _/_}
+use mathlib.Core.Bool.{Bool, not, _&&_}
+use mathlib.Core.List.{List, [], _∷_, _++_}
+use lib.Dec.{eqb}
+use lib.ListN.{length, getD, take, drop, replicate}
+use Rattle.rows.specs.Words.{any, first}
+use Rattle.rows.specs.Rows.{part, put, row}
+use Rattle.terms.specs.declared.LockString.{LockString}
+use Rattle.terms.specs.Strings.{sameString, normal}
+
+-- at most 64 locks
+abbrev pub limit : ℕ
+limit = 64
+
+abbrev pub listLength : ℕ
+listLength = 14 * limit
+
+abbrev pub stateLength : ℕ
+stateLength = listLength + 15
+
+unfoldable pub listOf : List ℕ → List ℕ
+listOf st = take listLength st
+
+unfoldable pub waitOf : List ℕ → List ℕ
+waitOf st = drop listLength st
+
+-- the list: how many places it has, the string in a place, and whether a place is used
+abbrev pub placeCount : List ℕ → ℕ
+placeCount l = length l / 14
+
+unfoldable pub stringIn : List ℕ → LockString
+stringIn r = record { len = getD r 0 0; bytes = part r 1 13 }
+
+unfoldable pub unused : List ℕ → ℕ → Bool
+unused l i = eqb (getD (row 14 l i) 0 0) 0
+
+-- place i holds x
+unfoldable pub listedAt : List ℕ → LockString → ℕ → Bool
+listedAt l x i = not (unused l i) && sameString (stringIn (row 14 l i)) x
+
+unfoldable pub isListed : List ℕ → LockString → Bool
+isListed l x = any (listedAt l x) (placeCount l)
+
+unfoldable pub placeOf : List ℕ → LockString → ℕ
+placeOf l x = first (listedAt l x) (placeCount l)
+
+-- how many strings are listed
+unfoldable pub listed : List ℕ → ℕ
+listed l = first (unused l) (placeCount l)
+
+-- a new string goes to the end, with zeros after it
+unfoldable pub added : List ℕ → LockString → List ℕ
+added l x = put l (14 * listed l) (x .len ∷ normal x .bytes)
+
+-- striking one keeps the order of the rest
+unfoldable pub struckAt : List ℕ → ℕ → List ℕ
+struckAt l i = take (14 * i) l ++ (drop (14 * i + 14) l ++ replicate 14 0)
+
+-- the frame awaited: its code, 0 for none, and the string asked for, with all its bytes
+unfoldable pub codeIn : List ℕ → ℕ
+codeIn v = getD v 0 0
+
+unfoldable pub askedIn : List ℕ → LockString
+askedIn v = record { len = getD v 1 0; bytes = part v 2 13 }
+
+abbrev pub nothing : List ℕ
+nothing = replicate 15 0

@@ -1,0 +1,278 @@
+// The station's end of the lock exchange: its list of locks and its wait, in 911 lent bytes. It asks one thing at a time,
+// sends that frame until a reply comes, and takes the reply. Each entry answers with the refusal number, 0 for none.
+mod list;
+mod rules;
+
+use frames::Command;
+use frames::Request;
+use frames::code;
+use terms::LockString;
+ghost use mathlib.Core.Path.{_≡_};
+ghost use mathlib.Core.Bool.{cond, not, _&&_};
+ghost use mathlib.Core.List.{_++_};
+ghost use lib.Dec.{eqb};
+ghost use lib.ListN.{length};
+ghost use Rattle.rows.specs.Outcomes.{Gives, Leaves};
+ghost use Rattle.terms.specs.Strings.{legal};
+ghost use Rattle.frames.specs.Table.{LOCK};
+ghost use Rattle.station.specs.State.{stateLength, listOf, waitOf, isListed, askedIn, nothing};
+ghost use Rattle.station.specs.Good.{goodState};
+ghost use Rattle.station.specs.Asks.{askRefusal, awaited, afterLock, afterUnlock, afterClear, Asks, freshState, commandFor, sentOf, bufferAfter};
+ghost use Rattle.station.specs.Replies.{fits, grants, carriesLength, Replies};
+
+// How many locks a station may hold, and the bytes of its list and of its state.
+pub const LIMIT: usize = 64;
+
+pub const LIST: usize = 896;
+
+pub const BYTES: usize = 911;
+
+const NOTHING: [u8; 15] = [0, 0, 0, 0, 0, 0, 0, 0, 0, 0, 0, 0, 0, 0, 0];
+
+// The state keeps every rule; refusal 11 where it does not.
+pub fn is_good(state: &[u8]) -> bool
+    ensures { λ b. ⌜ Gives (goodState (now (state .entry))) b ⌝ }
+{
+    if state.len() != BYTES {
+        return false;
+    }
+    let list = &state[..LIST];
+    if !rules::places_good(list, LIMIT) {
+        return false;
+    }
+    if !rules::places_alone(list, LIMIT) {
+        return false;
+    }
+    rules::wait_good(&state[LIST..])
+}
+
+// Empties the list and awaits nothing: 11 for another size.
+pub fn fresh(state: &mut [u8]) -> u8
+    ensures { λ r. ⌜ Leaves (cond (eqb (length (now (state .entry))) stateLength) 0 11) (cond (eqb (length (now (state .entry))) stateLength) freshState (now (state .entry))) r (now (state .exit)) ⌝ }
+{
+    if state.len() != BYTES {
+        return 11;
+    }
+    let zero = [0u8; 1];
+    rows::fill(state, BYTES, &zero);
+    0
+}
+
+// 11 the state, 14 a reply is awaited, or 0.
+fn ask_refusal(state: &[u8]) -> u8
+    ensures { λ r. ⌜ r ≡ askRefusal (now (state .entry)) ⌝ }
+{
+    if !is_good(state) {
+        return 11;
+    }
+    if state[LIST] == 0 { 0 } else { 14 }
+}
+
+// Awaits the frame with this code and string.
+fn await_string(state: &mut [u8], code: u8, s: LockString)
+    requires { ⌜ length (now state) ≡ stateLength ⌝ }
+    ensures { λ _. ⌜ now (state .exit) ≡ listOf (now (state .entry)) ++ awaited code s ⌝ }
+{
+    let head = [code, s.len];
+    let bytes = s.bytes;
+    rows::put(state, LIST, &head);
+    rows::put(state, LIST + 2, &bytes);
+}
+
+// Asks for a lock.
+pub fn ask_lock(state: &mut [u8], s: LockString) -> u8
+    ensures { λ r. ⌜ Asks (now (state .entry)) (afterLock (now (state .entry)) s) r (now (state .exit)) ⌝ }
+{
+    let refusal = ask_refusal(state);
+    if refusal != 0 {
+        return refusal;
+    }
+    await_string(state, code::LOCK, s);
+    0
+}
+
+// Asks to unlock: the string is struck from the list.
+pub fn ask_unlock(state: &mut [u8], s: LockString) -> u8
+    ensures { λ r. ⌜ Asks (now (state .entry)) (afterUnlock (now (state .entry)) s) r (now (state .exit)) ⌝ }
+{
+    let refusal = ask_refusal(state);
+    if refusal != 0 {
+        return refusal;
+    }
+    list::strike(&mut state[..LIST], s);
+    await_string(state, code::UNLOCK, s);
+    0
+}
+
+// Asks to clear all locks: the list is emptied.
+pub fn ask_clear(state: &mut [u8]) -> u8
+    ensures { λ r. ⌜ Asks (now (state .entry)) afterClear r (now (state .exit)) ⌝ }
+{
+    let refusal = ask_refusal(state);
+    if refusal != 0 {
+        return refusal;
+    }
+    let zero = [0u8; 1];
+    let clear = [code::CLEAR];
+    rows::fill(state, BYTES, &zero);
+    rows::put(state, LIST, &clear);
+    0
+}
+
+// The string asked for, as it was asked.
+fn asked(state: &[u8]) -> LockString
+    requires { ⌜ length (now state) ≡ stateLength ⌝ }
+    ensures { λ s. ⌜ s ≡ askedIn (waitOf (now (state .entry))) ⌝ }
+{
+    let len = state[LIST + 1];
+    let bytes = rows::thirteen_of(state, LIST + 2);
+    LockString { len, bytes }
+}
+
+fn command_of(code: u8) -> Command
+    ensures { λ r. ⌜ r ≡ commandFor code ⌝ }
+{
+    if code == code::LOCK {
+        return Command::Lock;
+    }
+    if code == code::UNLOCK {
+        return Command::Unlock;
+    }
+    Command::Clear
+}
+
+// What a station sends: a refusal and 0, or 0 and the length of the frame, 0 where nothing is awaited.
+pub struct Sent {
+    pub refusal: u8,
+    pub length: usize,
+}
+
+// Writes the frame awaited at the start of the buffer: 11, 13.
+pub fn send(state: &[u8], buffer: &mut [u8]) -> Sent
+    ensures { λ r. ⌜ Leaves (sentOf (now (state .entry)) (length (now (buffer .entry)))) (bufferAfter (now (state .entry)) (now (buffer .entry))) r (now (buffer .exit)) ⌝ }
+{
+    if !is_good(state) {
+        return Sent {
+            refusal: 11,
+            length: 0,
+        };
+    }
+    let code = state[LIST];
+    if code == 0 {
+        return Sent {
+            refusal: 0,
+            length: 0,
+        };
+    }
+    let command = command_of(code);
+    let string = asked(state);
+    let request = Request {
+        command,
+        name: [0; 8],
+        password: [0; 6],
+        serial: [0; 4],
+        string,
+    };
+    let written = frames::write(request, buffer);
+    Sent {
+        refusal: written.refusal,
+        length: written.length,
+    }
+}
+
+// The reply is listed for the request.
+fn is_listed_reply(code: u8, reply: u8) -> bool
+    ensures { λ r. ⌜ r ≡ fits code reply ⌝ }
+{
+    if code == code::LOCK {
+        return match reply {
+            0x00 | 0x81 | 0x01 | 0x02 | 0x82 => true,
+            _ => false,
+        };
+    }
+    if code == code::UNLOCK {
+        return match reply {
+            0x00 | 0x02 => true,
+            _ => false,
+        };
+    }
+    if code != code::CLEAR {
+        return false;
+    }
+    reply == 0x00
+}
+
+fn is_grant(reply: u8) -> bool
+    ensures { λ r. ⌜ r ≡ grants reply ⌝ }
+{
+    if reply == 0x00 {
+        return true;
+    }
+    reply == 0x81
+}
+
+// 00 or 81 for an illegal length.
+fn is_bad_grant(code: u8, s: LockString, reply: u8) -> bool
+    ensures { λ r. ⌜ r ≡ grants reply && (carriesLength code && not (legal s)) ⌝ }
+{
+    if !is_grant(reply) {
+        return false;
+    }
+    if code == code::LOCK {
+        return !terms::is_legal(s);
+    }
+    if code == code::UNLOCK {
+        return !terms::is_legal(s);
+    }
+    false
+}
+
+// The reply adds the string to the list.
+fn is_new(list: &[u8], code: u8, s: LockString, reply: u8) -> bool
+    ensures { λ r. ⌜ r ≡ eqb code LOCK && (grants reply && not (isListed (now (list .entry)) s)) ⌝ }
+{
+    if code != code::LOCK {
+        return false;
+    }
+    if !is_grant(reply) {
+        return false;
+    }
+    let n = list.len() / list::PLACE;
+    n <= list::find(list, n, s)
+}
+
+// Ends the wait.
+fn end_wait(state: &mut [u8])
+    requires { ⌜ length (now state) ≡ stateLength ⌝ }
+    ensures { λ _. ⌜ now (state .exit) ≡ listOf (now (state .entry)) ++ nothing ⌝ }
+{
+    rows::put(state, LIST, &NOTHING);
+}
+
+// Takes a reply to the frame awaited: 11, 15.
+pub fn take_reply(state: &mut [u8], reply: u8) -> u8
+    ensures { λ r. ⌜ Replies (now (state .entry)) reply r (now (state .exit)) ⌝ }
+{
+    if !is_good(state) {
+        return 11;
+    }
+    let code = state[LIST];
+    if !is_listed_reply(code, reply) {
+        return 15;
+    }
+    let s = asked(state);
+    if is_bad_grant(code, s, reply) {
+        return 15;
+    }
+    if !is_new(&state[..LIST], code, s, reply) {
+        end_wait(state);
+        return 0;
+    }
+    let at = list::count(&state[..LIST], LIMIT);
+    if LIMIT <= at {
+        return 15;
+    }
+    list::put(&mut state[..LIST], at, s);
+    end_wait(state);
+    0
+}

@@ -1,0 +1,115 @@
+// A station's list of locks: places of 14 lent bytes, length and string, the used ones first.
+use terms::LockString;
+ghost use mathlib.Core.Path.{_≡_};
+ghost use mathlib.Core.List.{_∷_};
+ghost use Prim.Native.Nat.{_+_, _*_, _≤_};
+ghost use lib.ListN.{length};
+ghost use Rattle.rows.specs.Words.{first};
+ghost use Rattle.rows.specs.Rows.{row, put as putIn};
+ghost use Rattle.terms.specs.Strings.{normal};
+ghost use Rattle.station.specs.State.{listLength, stringIn, unused, listedAt, struckAt};
+ghost use Rattle.station.specs.Asks.{struck};
+
+pub const PLACE: usize = 14;
+
+// The string in place i, by value.
+pub fn string_at(list: &[u8], i: usize) -> LockString
+    requires { ⌜ 14 * i + 14 ≤ length (now list) ⌝ }
+    ensures { λ s. ⌜ s ≡ stringIn (row 14 (now (list .entry)) i) ⌝ }
+{
+    let at = PLACE * i;
+    let len = list[at];
+    let bytes = rows::thirteen_of(list, at + 1);
+    LockString { len, bytes }
+}
+
+// Place i is unused.
+pub fn is_unused(list: &[u8], i: usize) -> bool
+    requires { ⌜ 14 * i + 14 ≤ length (now list) ⌝ }
+    ensures { λ r. ⌜ r ≡ unused (now (list .entry)) i ⌝ }
+{
+    list[PLACE * i] == 0
+}
+
+// Place i holds s: the length is tested before the string is read out.
+fn holds(list: &[u8], i: usize, s: LockString) -> bool
+    requires { ⌜ 14 * i + 14 ≤ length (now list) ⌝ }
+    ensures { λ r. ⌜ r ≡ listedAt (now (list .entry)) s i ⌝ }
+{
+    if is_unused(list, i) {
+        return false;
+    }
+    if list[PLACE * i] != s.len {
+        return false;
+    }
+    terms::same_string(string_at(list, i), s)
+}
+
+// The first of n places that holds s, or n.
+pub fn find(list: &[u8], n: usize, s: LockString) -> usize
+    requires { ⌜ 14 * n ≤ length (now list) ⌝ }
+    ensures { λ r. ⌜ r ≡ first (listedAt (now (list .entry)) s) n ⌝ }
+{
+    let mut i: usize = 0;
+    while i < n {
+        if holds(list, i, s) {
+            return i;
+        }
+        i += 1;
+    }
+    n
+}
+
+// The first of n places that is unused, or n: how many strings are listed.
+pub fn count(list: &[u8], n: usize) -> usize
+    requires { ⌜ 14 * n ≤ length (now list) ⌝ }
+    ensures { λ r. ⌜ r ≡ first (unused (now (list .entry))) n ⌝ }
+{
+    let mut i: usize = 0;
+    while i < n {
+        if is_unused(list, i) {
+            return i;
+        }
+        i += 1;
+    }
+    n
+}
+
+// Puts s down in place i, with zeros after it.
+pub fn put(list: &mut [u8], i: usize, s: LockString)
+    requires { ⌜ 14 * i + 14 ≤ length (now list) ⌝ }
+    ensures { λ _. ⌜ now (list .exit) ≡ putIn (now (list .entry)) (14 * i) (s .len ∷ normal s .bytes) ⌝ }
+{
+    let plain = terms::normal(s);
+    let head = [s.len];
+    let bytes = plain.bytes;
+    rows::put(list, PLACE * i, &head);
+    rows::put(list, PLACE * i + 1, &bytes);
+}
+
+// Strikes place i: the places after it move down by one, and the last becomes unused.
+fn strike_at(list: &mut [u8], i: usize)
+    requires { ⌜ (length (now list) ≡ listLength) × (14 * i + 14 ≤ listLength) ⌝ }
+    ensures { λ _. ⌜ now (list .exit) ≡ struckAt (now (list .entry)) i ⌝ }
+{
+    let at = PLACE * i;
+    let rest = list.len() - at - PLACE;
+    let mut moved = [0u8; 896];
+    rows::put(&mut moved, 0, rows::part(list, at + PLACE, rest));
+    rows::put(list, at, &moved[..rest + PLACE]);
+}
+
+// Strikes s from the list where it is legal and listed.
+pub fn strike(list: &mut [u8], s: LockString)
+    requires { ⌜ length (now list) ≡ listLength ⌝ }
+    ensures { λ _. ⌜ now (list .exit) ≡ struck (now (list .entry)) s ⌝ }
+{
+    if !terms::is_legal(s) {
+        return;
+    }
+    let n = list.len() / PLACE;
+    let i = find(list, n, s);
+    if i < n {
+        strike_at(list, i);
+    }
+}
