@@ -2,7 +2,7 @@
 use Prim.Native.Nat.{ℕ}
 use native.Mathlib.Omega.{arith}
 use mathlib.Core.Path.{_≡_, refl, sym, ap, _∙_}
-use mathlib.Core.List.{List}
+use mathlib.Core.List.{List, [], _∷_}
 use borrow.Author.Tests.{ne-eqb}
 use Rattle.rows.proofs.BoolLaws.{by-test, by-eq}
 pub use Rattle.rows.proofs.NumberLaws.{Bytes}
@@ -13,14 +13,16 @@ use Rattle.frames.specs.declared.Command.the-variants.{Acknowledge, Read, Write
 use Rattle.frames.specs.declared.Request.{Request}
 use Rattle.frames.specs.Reading.{requestIn}
 use Rattle.site.specs.Places.{placedBy}
+use Rattle.who.specs.Records.{flag}
 use Rattle.master.specs.Answers.{Told, refuses, answers}
 use Rattle.master.specs.Refusals.{refusal}
 use Rattle.master.specs.Frames.{placeTold, hasFree, loginAnswer, answerTo, locksBy, recordsBy, frameTold, frameLocks, frameRecords}
 use Rattle.master.specs.Fresh.{sized, freshTold}
-use Rattle.hinet.specs.Packing.{word, refusalIn, toldIn}
-use Rattle.hinet.specs.Entries.{placeWord, Tells, Freshened, Served, Polled}
-use Rattle.hinet.proofs.PackLaws.{word-back, refused-told}
-use Rattle.hinet.proofs.TellLaws.{placed-fits, frame-fits}
+use Rattle.master.specs.Polls.{dueAt, outAt, pollRefusal, pollTold, pollLocks, pollRecords}
+use Rattle.hinet.specs.Packing.{word, turnWord, refusalIn, toldIn}
+use Rattle.hinet.specs.Entries.{placeWord, Tells, Freshened, Served, isHeard, Polled}
+use Rattle.hinet.proofs.PackLaws.{flag-small, word-back, turn-back, refused-told, no-refusal, choice-tells, refused-choice}
+use Rattle.hinet.proofs.TellLaws.{placed-fits, frame-fits, poll-small}
 
 -- any two outcomes that a contract allows are equal
 pub tells-one : {a : Told} {t w t′ w′ t″ w″ : List ℕ} {r q : ℕ} → Tells a t w r t′ w′ → Tells a t w q t″ w″ → (r ≡ q) × (t′ ≡ t″) × (w′ ≡ w″)
@@ -42,10 +44,6 @@ unfolding freshTold word refusalIn
 refused-fresh-untouched t w r t′ w′ done ne = by-test (sized t w)
     (λ y. let z : r ≡ 0 = done .answer ∙ rw y in absurd (ne (ap refusalIn z)))
     (λ m. (done .answer ∙ rw m, done .locks ∙ rw m, done .stations ∙ rw m))
-
--- an answer is no refusal
-no-refusal : {vs : List ℕ} {k : ℕ} → answers vs ≡ refuses k → ⊥
-no-refusal e = let z : _≡_ {A = ℕ} 0 1 = cc in omega arith
 
 module _ (n : ℕ) (f s t w : List ℕ) where
   -- a command that is refused changes nothing
@@ -81,3 +79,22 @@ module _ (n : ℕ) (f s t w : List ℕ) where
 
 pub polled-one : {n heard : ℕ} {t w t′ w′ t″ w″ : List ℕ} {r q : ℕ} → Polled n heard t w r t′ w′ → Polled n heard t w q t″ w″ → (r ≡ q) × (t′ ≡ t″) × (w′ ≡ w″)
 polled-one x y = (x .answer ∙ sym (y .answer), x .locks ∙ sym (y .locks), x .stations ∙ sym (y .stations))
+
+-- the word of a turn, taken apart, tells what the master tells; a refused turn is its number alone, and both tables are as they were
+module _ (n heard : ℕ) (t w : List ℕ) (r : ℕ) (t′ w′ : List ℕ) (done : Polled n heard t w r t′ w′) where
+  values : List ℕ
+  values = flag (dueAt w n) ∷ flag (outAt w n (isHeard heard)) ∷ []
+
+  values-back : toldIn (turnWord (answers values)) ≡ answers values
+  unfolding values
+  values-back = turn-back _ _ (omega (arith, flag-small (dueAt w n))) (omega (arith, flag-small (outAt w n (isHeard heard))))
+
+  pub poll-word-tells : toldIn r ≡ pollTold n (isHeard heard) t w
+  unfolding turnWord pollTold values
+  poll-word-tells = choice-tells turnWord (λ k. refl) (pollRefusal n (isHeard heard) t w) (poll-small n (isHeard heard) t w) values values-back r (done .answer)
+
+  pub refused-poll-untouched : (refusalIn r ≡ 0 → ⊥) → (r ≡ refusalIn r) × (t′ ≡ t) × (w′ ≡ w)
+  unfolding turnWord pollTold pollLocks pollRecords values
+  refused-poll-untouched ne =
+      let told = refused-choice turnWord (λ k. refl) (pollRefusal n (isHeard heard) t w) (poll-small n (isHeard heard) t w) values values-back r (done .answer) ne in
+      (told .0, done .locks ∙ rw (told .2), done .stations ∙ rw (told .2))

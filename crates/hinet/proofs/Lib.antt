@@ -2,3 +2,4 @@ pub mod PlaceLaws
 pub mod PackLaws
 pub mod TellLaws
 pub mod EntryLaws
+pub mod StationLaws

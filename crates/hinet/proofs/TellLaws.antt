@@ -3,7 +3,7 @@ use Prim.Native.Nat.{ℕ, zero, suc, _+_, _*_, _<_, _^_}
 use native.Mathlib.Omega.{arith}
 use native.Mathlib.Nat.{pow-suc}
 use mathlib.Core.Path.{_≡_}
-use mathlib.Core.Bool.{Bool, true, false, cond, not, _||_}
+use mathlib.Core.Bool.{Bool, true, false, cond, not, _&&_, _||_}
 use mathlib.Core.List.{List, [], _∷_}
 use lib.Dec.{eqb, ltb}
 use lib.ListN.{length, take, drop}
@@ -32,9 +32,10 @@ use Rattle.site.proofs.PlaceLaws.{place-ends}
 use Rattle.who.specs.Good.{numbers}
 use Rattle.who.specs.Logins.{lowestFree}
 use Rattle.locks.specs.Table.{rowCount, freeAt, isHeld, isOwn, lockStatus, unlocks, unlockStatus}
-use Rattle.master.specs.Refusals.{unknown, misplaced, dtnSet, srcDiffers, placeRefusal, frameTests, frameRefusal, refusal}
+use Rattle.master.specs.Refusals.{ANYBODY, unknown, misplaced, dtnSet, srcDiffers, placeRefusal, frameTests, frameRefusal, refusal}
 use Rattle.master.specs.Tables.{goodTables}
 use Rattle.master.specs.Frames.{placeTold, hasFree, nameFound, loginAnswer, rowAnswer, assignable, assignAnswer, answerTo, frameTold}
+use Rattle.master.specs.Polls.{dueAt, pollRefusal}
 use Rattle.hinet.proofs.PackLaws.{flag-small, Tellable}
 
 -- what holds of both sides of a choice
@@ -42,7 +43,7 @@ by-cond : {A : Type 0} (P : A → Type 0) (b : Bool) {x y : A} → P x → P y �
 by-cond P true p q = p
 by-cond P false p q = q
 
-either : (b : Bool) (k m : ℕ) → k < 256 → m < 256 → cond b k m < 256
+pub either : (b : Bool) (k m : ℕ) → k < 256 → m < 256 → cond b k m < 256
 either true k m l h = l
 either false k m l h = h
 
@@ -155,3 +156,12 @@ module _ (n : ℕ) (f s t w : List ℕ) where
   frame-fits frame site = by-eq (refusal n f s t w) 0
       (λ z. rw z (answer-fits frame site (site-good z)))
       (λ ne. rw (ne-eqb (refusal n f s t w) 0 ne) (omega (arith, refusal-small)))
+
+-- a refused turn
+pub poll-small : (n : ℕ) (h : Bool) (t w : List ℕ) → pollRefusal n h t w < 256
+unfolding pollRefusal
+poll-small n h t w =
+    either (not (goodTables t w)) 11 _ (omega arith)
+    (either (unknown n w) 2 _ (omega arith)
+    (either (eqb n 0 || eqb n ANYBODY) 5 _ (omega arith)
+    (either (h && not (dueAt w n)) 12 0 (omega arith) (omega arith))))

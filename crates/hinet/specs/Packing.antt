@@ -40,6 +40,16 @@ turnWord (answers (due ∷ [])) = 0
 turnWord (answers (due ∷ out ∷ [])) = TURN * 2 ^ 8 + due * 2 ^ 16 + out * 2 ^ 24
 turnWord (answers (a ∷ b ∷ c ∷ more)) = 0
 
+-- a frame that a station sends has one too: its length
+abbrev pub WRITTEN : ℕ
+WRITTEN = 6
+
+unfoldable pub writtenWord : Told → ℕ
+writtenWord (refuses k) = k
+writtenWord (answers []) = 0
+writtenWord (answers (length ∷ [])) = WRITTEN * 2 ^ 8 + length * 2 ^ 16
+writtenWord (answers (a ∷ b ∷ more)) = 0
+
 -- how the C program takes a word apart: the refusal, the kind, and n bytes of the answer from byte i on
 unfoldable pub refusalIn : ℕ → ℕ
 refusalIn x = x % 2 ^ 8
@@ -57,7 +67,9 @@ valuesIn x =
     (cond (eqb (kindIn x) ASSIGN) (bytesIn x 0 1 ∷ bytesIn x 1 1 ∷ bytesIn x 2 1 ∷ bytesIn x 3 1 ∷ [])
     (cond (eqb (kindIn x) PLACE) (bytesIn x 0 1 ∷ bytesIn x 1 4 ∷ [])
     (cond (eqb (kindIn x) LOGIN) (bytesIn x 0 1 ∷ bytesIn x 1 1 ∷ bytesIn x 2 4 ∷ [])
-    [])))
+    (cond (eqb (kindIn x) TURN) (bytesIn x 0 1 ∷ bytesIn x 1 1 ∷ [])
+    (cond (eqb (kindIn x) WRITTEN) (bytesIn x 0 1 ∷ [])
+    [])))))
 
 unfoldable pub toldIn : ℕ → Told
 toldIn x = cond (eqb (refusalIn x) 0) (answers (valuesIn x)) (refuses (refusalIn x))

@@ -1,6 +1,7 @@
 // The entries for the box's C program: numbers and byte slices in, one word out (specs/Packing.antt). Each is thin over
 // the proved library and takes any input. A number that is too large for what it means is refused and never cut to a byte.
 mod packing;
+mod station_end;
 
 use terms::Address;
 use terms::Partition;
@@ -74,7 +75,7 @@ fn track_of(track: u32) -> Track
 fn sector_of(sector: u32) -> Sector
     ensures { λ r. ⌜ r .0 ≡ min sector 255 ⌝ }
 {
-    Sector(if sector < 255 { sector as u8 } else { 255 })
+    Sector(packing::byte_of(sector))
 }
 
 // 10, or 8 in a good site file.

@@ -1,12 +1,15 @@
-// An answer as one word (specs/Packing.antt).
+// An answer as one word (specs/Packing.antt), and a number of C as a byte.
 use master::Answer;
 use master::Turned;
 use site::Placed;
+use station::Sent;
 ghost use mathlib.Core.Path.{_≡_};
+ghost use Prim.Native.Nat.{_<_, min};
 ghost use Rattle.master.specs.Answers.{told};
 ghost use Rattle.master.specs.Frames.{placeTold};
 ghost use Rattle.master.specs.Polls.{turnTold};
-ghost use Rattle.hinet.specs.Packing.{word, turnWord};
+ghost use Rattle.hinet.specs.Packing.{word, turnWord, writtenWord};
+ghost use Rattle.hinet.specs.StationEntries.{stepTold, sentTold};
 
 // The kinds of answer, in bits 8 to 15.
 const STATUS: u64 = 0x100;
@@ -18,6 +21,8 @@ const PLACE: u64 = 0x300;
 const LOGIN: u64 = 0x400;
 
 const TURN: u64 = 0x500;
+
+const WRITTEN: u64 = 0x600;
 
 // Where the bytes of an answer stand.
 const BYTE_0: u64 = 0x1_0000;
@@ -71,4 +76,29 @@ pub fn pack_turn(a: Turned) -> u64
         Turned::Refused(k) => k as u64,
         Turned::Turn { due, out } => TURN + due as u64 * BYTE_0 + out as u64 * BYTE_1,
     }
+}
+
+// A step of the station: its refusal, 0 for none.
+pub fn pack_step(refusal: u8) -> u64
+    ensures { λ r. ⌜ r ≡ word (stepTold refusal) ⌝ }
+{
+    refusal as u64
+}
+
+pub fn pack_sent(sent: Sent) -> u64
+    requires { ⌜ sent .length < 256 ⌝ }
+    ensures { λ r. ⌜ r ≡ writtenWord (sentTold sent) ⌝ }
+{
+    let refusal = sent.refusal;
+    if refusal != 0 {
+        return refusal as u64;
+    }
+    WRITTEN + sent.length as u64 * BYTE_0
+}
+
+// A number that is too large for a byte becomes 255.
+pub fn byte_of(n: u32) -> u8
+    ensures { λ r. ⌜ r ≡ min n 255 ⌝ }
+{
+    if n < 255 { n as u8 } else { 255 }
 }

@@ -1,0 +1,133 @@
+-- The station's entries: the words of its steps and of the frame it sends, and what the C program can rely on.
+use Prim.Native.Nat.{ℕ, zero, suc, min, _≤_, _<_}
+use native.Mathlib.Omega.{arith}
+use mathlib.Core.Path.{_≡_, refl, sym, ap, _∙_}
+use mathlib.Core.Bool.{Bool, true, false, cond, not, _&&_}
+use mathlib.Core.List.{List, [], _∷_}
+use lib.Dec.{eqb, leb, ltb}
+use lib.ListN.{length}
+use borrow.Author.Tests.{ne-eqb, ltb-true, ltb-false}
+use Rattle.rows.proofs.BoolLaws.{by-test, by-eq}
+use Rattle.rows.specs.Outcomes.{Leaves}
+use Rattle.terms.specs.Strings.{legal}
+use Rattle.frames.specs.Table.{LOCK, UNLOCK, CLEAR}
+use Rattle.master.specs.Answers.{answers}
+use Rattle.station.specs.State.{limit, stateLength, listOf, waitOf, listed, codeIn, askedIn}
+use Rattle.station.specs.Good.{goodState}
+use Rattle.station.specs.Asks.{freshState, waits, askRefusal, frameAwaited, sendRefusal, sentOf, bufferAfter}
+use Rattle.station.specs.Replies.{fits, grants, carriesLength, adds, replyRefusal, Replies}
+use Rattle.station.proofs.StateLaws.{state-is, wait-long}
+use Rattle.hinet.specs.Packing.{word, writtenWord, refusalIn, toldIn}
+use Rattle.hinet.specs.StationEntries.{stepTold, Steps, freshRefusal, Freshly, Takes, sentTold, Sends}
+use Rattle.hinet.proofs.PackLaws.{word-back, written-back, choice-tells, refused-choice}
+use Rattle.hinet.proofs.TellLaws.{either}
+
+-- the word of a step is its refusal, 0 for none
+pub step-word : (k : ℕ) → word (stepTold k) ≡ k
+unfolding word stepTold
+step-word zero = refl
+step-word (suc k) = rw (ne-eqb (suc k) 0 (λ e. omega arith))
+
+-- any two outcomes that a contract allows are equal
+pub steps-one : {k : ℕ} {after st st₁ st₂ : List ℕ} {r r′ : ℕ} → Steps k after st r st₁ → Steps k after st r′ st₂ → (r ≡ r′) × (st₁ ≡ st₂)
+steps-one a b = (a .answer ∙ sym (b .answer), a .left ∙ sym (b .left))
+
+-- the entries over what the crate station promises
+pub stepped : {k k′ r : ℕ} {after st st′ : List ℕ} → r ≡ word (stepTold k′) → k′ ≡ k → st′ ≡ cond (eqb k 0) after st → Steps k after st r st′
+stepped e same left = record { answer = e ∙ ap (λ k. word (stepTold k)) same; left = left }
+
+pub freshened : (st : List ℕ) {k r : ℕ} {st′ : List ℕ} → r ≡ word (stepTold k)
+    → Leaves (cond (eqb (length st) stateLength) 0 11) (cond (eqb (length st) stateLength) freshState st) k st′ → Freshly st r st′
+unfolding freshRefusal
+freshened st e done = stepped e (done .answer) (by-test (eqb (length st) stateLength) (λ y. done .left ∙ rw y) (λ n. done .left ∙ rw n))
+
+-- no request lists a reply above 82 hex, so that one which is too large for a byte may become the largest
+none-fits : (code n : ℕ) → 0x82 < n → fits code n ≡ false
+unfolding fits
+none-fits code n large =
+    rw (ne-eqb n 0x00 (λ e. omega arith), ne-eqb n 0x81 (λ e. omega arith), ne-eqb n 0x01 (λ e. omega arith), ne-eqb n 0x02 (λ e. omega arith), ne-eqb n 0x82 (λ e. omega arith))
+    (go (eqb code LOCK) (eqb code UNLOCK) (eqb code CLEAR))
+  where
+    go : (l u c : Bool) → cond l false (cond u false (c && false)) ≡ false
+    go true u c = refl
+    go false true c = refl
+    go false false true = refl
+    go false false false = refl
+
+pub reply-taken : (st : List ℕ) (n : ℕ) {k r : ℕ} {st′ : List ℕ} → r ≡ word (stepTold k) → Replies st (min n 255) k st′ → Takes st n r st′
+unfolding replyRefusal
+reply-taken st n e done = by-test (ltb n 256)
+    (λ y.
+    let same : min n 255 ≡ n = omega (arith, ltb-true n 256 y) in
+    let taken = rw same at done in
+    stepped e (taken .answer) (taken .left))
+    (λ m.
+    let cut = none-fits (codeIn (waitOf st)) (min n 255) (omega (arith, ltb-false n 256 m)) in
+    let large = none-fits (codeIn (waitOf st)) n (omega (arith, ltb-false n 256 m)) in
+    stepped e (done .answer ∙ rw (cut, large)) (done .left ∙ by-test (goodState st) (λ g. rw (g, cut, large)) (λ b. rw b)))
+
+-- every refusal is a byte
+pub fresh-small : (st : List ℕ) → freshRefusal st < 256
+unfolding freshRefusal
+fresh-small st = either (eqb (length st) stateLength) 0 11 (omega arith) (omega arith)
+
+pub ask-small : (st : List ℕ) → askRefusal st < 256
+unfolding askRefusal
+ask-small st = either (not (goodState st)) 11 _ (omega arith) (either (waits st) 14 0 (omega arith) (omega arith))
+
+pub reply-small : (st : List ℕ) (n : ℕ) → replyRefusal st n < 256
+unfolding replyRefusal
+reply-small st n =
+    either (not (goodState st)) 11 _ (omega arith)
+    (either (not (fits (codeIn (waitOf st)) n)) 15 _ (omega arith)
+    (either (grants n && (carriesLength (codeIn (waitOf st)) && not (legal (askedIn (waitOf st))))) 15 _ (omega arith)
+    (either (adds (listOf st) (waitOf st) n && leb limit (listed (listOf st))) 15 0 (omega arith) (omega arith))))
+
+-- a step: its word tells the refusal, and a refused one is its number alone and leaves the state as it was
+module _ {k : ℕ} (small : k < 256) {after st : List ℕ} {r : ℕ} {st′ : List ℕ} (done : Steps k after st r st′) where
+  pub step-word-tells : toldIn r ≡ stepTold k
+  unfolding stepTold word
+  step-word-tells = choice-tells word (λ k. refl) k small [] (word-back (answers []) tt) r (done .answer)
+
+  pub refused-step-untouched : (refusalIn r ≡ 0 → ⊥) → (r ≡ refusalIn r) × (r ≡ k) × (st′ ≡ st)
+  unfolding stepTold word
+  refused-step-untouched ne =
+      let told = refused-choice word (λ k. refl) k small [] (word-back (answers []) tt) r (done .answer) ne in
+      (told .0, told .1, done .left ∙ rw (told .2))
+
+-- a frame sent has at most 15 bytes
+frame-short : (v : List ℕ) → length v ≡ 15 → length (frameAwaited v) ≤ 15
+unfolding frameAwaited
+frame-short v long = by-test (eqb (codeIn v) 0)
+    (λ y. rw y (omega arith))
+    (λ n. by-test (eqb (codeIn v) CLEAR) (λ y. rw (n, y) (omega arith)) (λ m. rw (n, m) (omega (arith, long))))
+
+module _ (st : List ℕ) (n : ℕ) where
+  pub sent-short : sentOf st n .length < 256
+  unfolding sentOf sendRefusal
+  sent-short = by-test (goodState st)
+      (λ y. by-test (ltb n (length (frameAwaited (waitOf st))))
+      (λ l. rw (y, l) (omega arith))
+      (λ m. rw (y, m) (omega (arith, frame-short (waitOf st) (wait-long st (state-is st y .sized))))))
+      (λ m. rw m (omega arith))
+
+  sent-refusal : sentOf st n .refusal ≡ sendRefusal st n
+  unfolding sentOf
+  sent-refusal = by-eq (sendRefusal st n) 0 (λ z. rw z) (λ ne. rw (ne-eqb (sendRefusal st n) 0 ne))
+
+  send-small : sentOf st n .refusal < 256
+  unfolding sendRefusal
+  send-small = rw sent-refusal (either (not (goodState st)) 11 _ (omega arith) (either (ltb n (length (frameAwaited (waitOf st)))) 13 0 (omega arith) (omega arith)))
+
+-- the word of a frame sent tells its length; a refused one is its number alone and leaves the buffer as it was
+module _ (st b : List ℕ) (r : ℕ) (b′ : List ℕ) (done : Sends st b r b′) where
+  pub send-word-tells : toldIn r ≡ sentTold (sentOf st (length b))
+  unfolding sentTold writtenWord
+  send-word-tells = choice-tells writtenWord (λ k. refl) (sentOf st (length b) .refusal) (send-small st (length b)) (sentOf st (length b) .length ∷ []) (written-back _ (sent-short st (length b))) r (done .answer)
+
+  pub refused-send-untouched : (refusalIn r ≡ 0 → ⊥) → (r ≡ refusalIn r) × (b′ ≡ b)
+  unfolding sentTold writtenWord bufferAfter
+  refused-send-untouched ne =
+      let told = refused-choice writtenWord (λ k. refl) (sentOf st (length b) .refusal) (send-small st (length b)) (sentOf st (length b) .length ∷ []) (written-back _ (sent-short st (length b))) r (done .answer) ne in
+      let refused = rw (sent-refusal st (length b)) at (told .2) in
+      (told .0, done .left ∙ rw refused)

@@ -1,0 +1,50 @@
+-- What each of the station's entries returns and leaves. st is its state, b the buffer, n the reply.
+use Prim.Native.Nat.{ℕ}
+use mathlib.Core.Path.{_≡_}
+use mathlib.Core.Bool.{cond}
+use mathlib.Core.List.{List, [], _∷_}
+use lib.Dec.{eqb}
+use lib.ListN.{length}
+use Rattle.rows.specs.Outcomes.{Leaves}
+use Rattle.terms.specs.declared.LockString.{LockString}
+use Rattle.master.specs.Answers.{Told, refuses, answers}
+use Rattle.station.specs.declared.Sent.{Sent}
+use Rattle.station.specs.State.{stateLength}
+use Rattle.station.specs.Asks.{freshState, askRefusal, afterLock, afterUnlock, afterClear, sentOf, bufferAfter}
+use Rattle.station.specs.Replies.{replyRefusal, afterReply}
+use Rattle.hinet.specs.Packing.{word, writtenWord}
+
+-- a step of the station has nothing to tell but its refusal, 0 for none
+unfoldable pub stepTold : ℕ → Told
+stepTold k = cond (eqb k 0) (answers []) (refuses k)
+
+-- what a step gives and leaves: the word of its refusal, and the state after it or as it was
+pub record Steps (k : ℕ) (after st : List ℕ) (r : ℕ) (st′ : List ℕ) : Type 0 where
+  pub answer : r ≡ word (stepTold k)
+  pub left : st′ ≡ cond (eqb k 0) after st
+
+unfoldable pub freshRefusal : List ℕ → ℕ
+freshRefusal st = cond (eqb (length st) stateLength) 0 11
+
+abbrev pub Freshly : List ℕ → ℕ → List ℕ → Type 0
+Freshly st = Steps (freshRefusal st) freshState st
+
+abbrev pub Locks : List ℕ → LockString → ℕ → List ℕ → Type 0
+Locks st x = Steps (askRefusal st) (afterLock st x) st
+
+abbrev pub Unlocks : List ℕ → LockString → ℕ → List ℕ → Type 0
+Unlocks st x = Steps (askRefusal st) (afterUnlock st x) st
+
+abbrev pub Clears : List ℕ → ℕ → List ℕ → Type 0
+Clears st = Steps (askRefusal st) afterClear st
+
+-- the reply is any number, and none is cut
+abbrev pub Takes : List ℕ → ℕ → ℕ → List ℕ → Type 0
+Takes st n = Steps (replyRefusal st n) (afterReply st n) st
+
+-- a frame sent tells its length, 0 where nothing is awaited
+unfoldable pub sentTold : Sent → Told
+sentTold s = cond (eqb (s .refusal) 0) (answers (s .length ∷ [])) (refuses (s .refusal))
+
+abbrev pub Sends : List ℕ → List ℕ → ℕ → List ℕ → Type 0
+Sends st b = Leaves (writtenWord (sentTold (sentOf st (length b)))) (bufferAfter st b)

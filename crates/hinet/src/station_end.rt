@@ -1,0 +1,64 @@
+// The entries of a station's end of the lock exchange, over its state of 911 lent bytes (specs/StationEntries.antt).
+use crate::packing;
+use terms::LockString;
+ghost use mathlib.Core.Path.{_≡_};
+ghost use Rattle.station.specs.State.{stringIn};
+ghost use Rattle.hinet.specs.StationEntries.{Freshly, Locks, Unlocks, Clears, Sends, Takes};
+
+// The string in 14 bytes, the length first.
+fn string_of(lockstring: &[u8; 14]) -> LockString
+    ensures { λ s. ⌜ s ≡ stringIn (now (lockstring .entry)) ⌝ }
+{
+    LockString {
+        len: lockstring[0],
+        bytes: rows::thirteen_of(lockstring, 1),
+    }
+}
+
+// An empty list, and no reply awaited: 11 for another size.
+#[no_mangle]
+pub extern "C" fn hinet_station_fresh(station: &mut [u8]) -> u64
+    ensures { λ r. ⌜ Freshly (now (station .entry)) r (now (station .exit)) ⌝ }
+{
+    packing::pack_step(station::fresh(station))
+}
+
+// Asks for a lock: 11, 14.
+#[no_mangle]
+pub extern "C" fn hinet_station_lock(station: &mut [u8], lockstring: &[u8; 14]) -> u64
+    ensures { λ r. ⌜ Locks (now (station .entry)) (stringIn (now (lockstring .entry))) r (now (station .exit)) ⌝ }
+{
+    packing::pack_step(station::ask_lock(station, string_of(lockstring)))
+}
+
+// Asks to unlock: 11, 14.
+#[no_mangle]
+pub extern "C" fn hinet_station_unlock(station: &mut [u8], lockstring: &[u8; 14]) -> u64
+    ensures { λ r. ⌜ Unlocks (now (station .entry)) (stringIn (now (lockstring .entry))) r (now (station .exit)) ⌝ }
+{
+    packing::pack_step(station::ask_unlock(station, string_of(lockstring)))
+}
+
+// Asks to clear all locks: 11, 14.
+#[no_mangle]
+pub extern "C" fn hinet_station_clear(station: &mut [u8]) -> u64
+    ensures { λ r. ⌜ Clears (now (station .entry)) r (now (station .exit)) ⌝ }
+{
+    packing::pack_step(station::ask_clear(station))
+}
+
+// Writes the frame awaited and tells its length, 0 where nothing is awaited: 11, 13.
+#[no_mangle]
+pub extern "C" fn hinet_station_frame(station: &[u8], buffer: &mut [u8]) -> u64
+    ensures { λ r. ⌜ Sends (now (station .entry)) (now (buffer .entry)) r (now (buffer .exit)) ⌝ }
+{
+    packing::pack_sent(station::send(station, buffer))
+}
+
+// Takes a reply to the frame awaited: 11, 15. A number above 255 is taken for 255, which no request lists either.
+#[no_mangle]
+pub extern "C" fn hinet_station_reply(station: &mut [u8], reply: u32) -> u64
+    ensures { λ r. ⌜ Takes (now (station .entry)) reply r (now (station .exit)) ⌝ }
+{
+    packing::pack_step(station::take_reply(station, packing::byte_of(reply)))
+}
