@@ -386,6 +386,122 @@ uint64_t hinet_poll(uint32_t number, uint32_t heard,
                     uint8_t *locks, size_t locks_len,
                     uint8_t *stations, size_t stations_len);
 
+/* ------------------------------------------------------------------------
+ * (c) The station's end of the lock exchange
+ * ------------------------------------------------------------------------
+ *
+ * Station state: 911 bytes.
+ *   0 - 895    the list of locks: 64 places of 14 bytes, each a length and
+ *              13 string bytes. A place of length 0 is unused and zero, and
+ *              none used follows it. Used places have length 1 to 13 and
+ *              zeros after the string. No string stands twice.
+ *   896 - 910  the frame awaited: code, length, 13 bytes as asked. For clear
+ *              the code and zeros. 15 zeros when no reply is awaited.
+ *
+ * A station asks one thing at a time. It sends the frame awaited at as many
+ * polls as it likes, until a reply to that frame comes. Only the answers to
+ * that frame are given to hinet_station_reply; those to other commands are
+ * not. Where a reply was lost, the same frame is sent again and the next one
+ * settles it: a lock that was granted is then answered 81, an unlock 02.
+ *
+ * The list and the frame awaited are judged each by itself: a state is not
+ * refused because a frame is awaited that does not fit the list.
+ */
+
+#define HINET_STATE_PLACES 64
+#define HINET_STATE_PLACE_BYTES 14
+#define HINET_STATE_AWAITED 896     /* where the frame awaited stands */
+#define HINET_STATE_AWAITED_BYTES 15
+#define HINET_STATE_BYTES 911
+
+#define HINET_LOCKSTRING_BYTES 14
+
+/* Refusal numbers of this section. 11 is given for the state. */
+#define HINET_REFUSED_BUFFER 13     /* buffer too short for the frame */
+#define HINET_REFUSED_WAITING 14    /* station asks while waiting */
+#define HINET_REFUSED_REPLY 15      /* reply not fitting, see below */
+
+/* Kind of answer of this section, with its bytes. */
+#define HINET_KIND_WRITTEN 6        /* length */
+
+/* Kind WRITTEN: the length of the frame written, 0 when none is awaited. */
+static inline uint8_t hinet_answer_length(uint64_t answer)
+{
+    return hinet_answer_byte(answer, 0);
+}
+
+/*
+ * Fills a fresh state: an empty list, no reply awaited. Also called at each
+ * login.
+ *
+ * Refusals: 11 when station_len is not 911.
+ * Memory: the state is written whole.
+ * Answer: none (0).
+ */
+uint64_t hinet_station_fresh(uint8_t *station, size_t station_len);
+
+/*
+ * Asks for a lock. lockstring points to 14 bytes, the length first. A string
+ * of illegal length is asked like any other. All its bytes are kept.
+ *
+ * Refusals, in this order: 11 state, 14 a reply is awaited.
+ * Memory: the lock frame becomes the frame awaited. The list stays.
+ * Answer: none (0).
+ */
+uint64_t hinet_station_lock(uint8_t *station, size_t station_len,
+                            const uint8_t lockstring[HINET_LOCKSTRING_BYTES]);
+
+/*
+ * Asks for an unlock. lockstring is as in hinet_station_lock.
+ *
+ * Refusals, in this order: 11 state, 14 a reply is awaited.
+ * Memory: the same string is struck from the list, and the order of the rest
+ *   stays. A string of illegal length strikes nothing. The unlock frame
+ *   becomes the frame awaited.
+ * Answer: none (0).
+ */
+uint64_t hinet_station_unlock(uint8_t *station, size_t station_len,
+                              const uint8_t lockstring[HINET_LOCKSTRING_BYTES]);
+
+/*
+ * Asks to clear all locks.
+ *
+ * Refusals, in this order: 11 state, 14 a reply is awaited.
+ * Memory: the list is emptied. The clear frame becomes the frame awaited.
+ * Answer: none (0).
+ */
+uint64_t hinet_station_clear(uint8_t *station, size_t station_len);
+
+/*
+ * Writes the frame awaited at the start of the buffer.
+ *
+ * Refusals, in this order: 11 state, 13 the buffer is shorter than the
+ *   frame. Lock and unlock frames have 15 bytes, a clear frame has 1.
+ * Memory: the buffer holds the frame; the bytes after it stay. With no reply
+ *   awaited any buffer will do and all of it stays. The state stays.
+ * Answer: WRITTEN, with length 0 when no reply is awaited.
+ */
+uint64_t hinet_station_frame(const uint8_t *station, size_t station_len,
+                             uint8_t *buffer, size_t buffer_len);
+
+/*
+ * Takes the status byte that answers the frame awaited.
+ *
+ * Refusals, in this order:
+ *   11  state
+ *   15  no reply is awaited;
+ *       the byte is not listed for the request: lock 00 01 02 81 82,
+ *       unlock 00 02, clear 00; a number above 255 never is;
+ *       00 or 81 for a string of illegal length;
+ *       or the string would be the 65th of the list.
+ *       The wait goes on.
+ * Memory: a lock reply 00 or 81 adds the string to the end of the list, if
+ *   missing, with zeros after its length. Every reply taken ends the wait.
+ * Answer: none (0).
+ */
+uint64_t hinet_station_reply(uint8_t *station, size_t station_len,
+                             uint32_t reply);
+
 #ifdef __cplusplus
 }
 #endif

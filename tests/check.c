@@ -93,6 +93,13 @@ static const struct {
     [ENTRY_PLACE] = { "hinet_place", BITS(8, 10) | BIT(PLACE) },
     [ENTRY_POLL] = { "hinet_poll",
         BIT(11) | BIT(2) | BIT(5) | BIT(12) | BITS(TURN_NOT_DUE, TURN_OUT) },
+    [ENTRY_STATION_FRESH] = { "hinet_station_fresh", BIT(11) | BIT(NONE) },
+    [ENTRY_STATION_LOCK] = { "hinet_station_lock", BIT(11) | BIT(14) | BIT(NONE) },
+    [ENTRY_STATION_UNLOCK] = { "hinet_station_unlock", BIT(11) | BIT(14) | BIT(NONE) },
+    [ENTRY_STATION_CLEAR] = { "hinet_station_clear", BIT(11) | BIT(14) | BIT(NONE) },
+    [ENTRY_STATION_FRAME] = { "hinet_station_frame",
+        BIT(11) | BIT(13) | BITS(WRITTEN_0, WRITTEN_15) },
+    [ENTRY_STATION_REPLY] = { "hinet_station_reply", BIT(11) | BIT(15) | BIT(NONE) }
 };
 
 static unsigned long counts[ENTRIES][OUTCOMES];

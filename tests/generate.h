@@ -1,6 +1,6 @@
 /*
- * Seeded inputs: site files, frames and running tables, good ones and damaged
- * ones. The same seed gives the same inputs everywhere.
+ * Seeded inputs: site files, frames, running tables and station states, good
+ * ones and damaged ones. The same seed gives the same inputs everywhere.
  */
 #ifndef GENERATE_H
 #define GENERATE_H
@@ -175,5 +175,37 @@ void tables_damaged(struct rng *rng, struct tables *tables, enum tables_damage d
 
 /* Good tables with a few bytes changed: good or not. */
 void tables_scrambled(struct rng *rng, struct tables *tables);
+
+/* ---- station states ---- */
+
+enum { STATE_LEN = 911, STATE_ROOM = 1024, STATE_AWAITED = 896 };
+
+struct state {
+    size_t len;
+    uint8_t bytes[STATE_ROOM];
+};
+
+enum wait {
+    WAIT_NONE, WAIT_LOCK, WAIT_LOCK_LISTED, WAIT_LOCK_LENGTH_0,
+    WAIT_LOCK_LENGTH_14, WAIT_LOCK_LENGTH_255, WAIT_UNLOCK,
+    WAIT_UNLOCK_LENGTH_0, WAIT_UNLOCK_LENGTH_14, WAIT_CLEAR,
+    WAITS
+};
+
+/* A good state with so many entries in its list, in this wait. */
+void state_good(struct rng *rng, struct state *state, unsigned entries, enum wait wait);
+
+/* States that break one rule. */
+enum state_damage {
+    STATE_NO_BYTES, STATE_SHORT_BY_1, STATE_LONG_BY_1, STATE_SHORT_BY_PLACE,
+    STATE_LENGTH_14, STATE_LENGTH_255, STATE_BYTE_AFTER, STATE_TWICE,
+    STATE_GAP, STATE_UNUSED_TRACE, STATE_CODE_UNKNOWN, STATE_TRACE_NO_WAIT,
+    STATE_TRACE_CLEAR,
+    STATE_DAMAGES
+};
+void state_damaged(struct rng *rng, struct state *state, enum state_damage damage);
+
+/* A good state with a few bytes changed: good or not. */
+void state_scrambled(struct rng *rng, struct state *state);
 
 #endif

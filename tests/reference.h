@@ -29,6 +29,18 @@ uint64_t ref_poll(uint32_t number, uint32_t heard,
                   uint8_t *locks, size_t locks_len,
                   uint8_t *stations, size_t stations_len);
 
+/* The station's end. */
+uint64_t ref_station_fresh(uint8_t *station, size_t station_len);
+uint64_t ref_station_lock(uint8_t *station, size_t station_len,
+                          const uint8_t lockstring[14]);
+uint64_t ref_station_unlock(uint8_t *station, size_t station_len,
+                            const uint8_t lockstring[14]);
+uint64_t ref_station_clear(uint8_t *station, size_t station_len);
+uint64_t ref_station_frame(const uint8_t *station, size_t station_len,
+                           uint8_t *buffer, size_t buffer_len);
+uint64_t ref_station_reply(uint8_t *station, size_t station_len,
+                           uint32_t reply);
+
 /* A line of the session program. */
 void ref_print_line(FILE *out, unsigned long index, uint8_t number, uint64_t answer);
 
