@@ -5,8 +5,8 @@
  *   bench cases             the names of the cases
  *   bench lib|ref CASE N    N calls of one case on one side, no clock
  *
- * Before each call of a case the tables are put back; the case "nothing" does
- * only that, and its cost is taken off.
+ * Before each call of a case the tables and the station's state are put back;
+ * the case "nothing" does only that, and its cost is taken off.
  */
 #define _POSIX_C_SOURCE 199309L
 
@@ -31,13 +31,23 @@ struct side {
                       uint8_t *, size_t, uint8_t *, size_t);
     uint64_t (*place)(uint32_t, uint32_t, uint32_t, uint32_t, const uint8_t *, size_t);
     uint64_t (*poll)(uint32_t, uint32_t, uint8_t *, size_t, uint8_t *, size_t);
+    uint64_t (*station_fresh)(uint8_t *, size_t);
+    uint64_t (*station_lock)(uint8_t *, size_t, const uint8_t *);
+    uint64_t (*station_unlock)(uint8_t *, size_t, const uint8_t *);
+    uint64_t (*station_clear)(uint8_t *, size_t);
+    uint64_t (*station_frame)(const uint8_t *, size_t, uint8_t *, size_t);
+    uint64_t (*station_reply)(uint8_t *, size_t, uint32_t);
 };
 
 static const struct side library = {
-    "lib", hinet_check_tables, hinet_check_site, hinet_frame, hinet_place, hinet_poll
+    "lib", hinet_check_tables, hinet_check_site, hinet_frame, hinet_place, hinet_poll,
+    hinet_station_fresh, hinet_station_lock, hinet_station_unlock, hinet_station_clear,
+    hinet_station_frame, hinet_station_reply
 };
 static const struct side reference = {
-    "ref", ref_check_tables, ref_check_site, ref_frame, ref_place, ref_poll
+    "ref", ref_check_tables, ref_check_site, ref_frame, ref_place, ref_poll,
+    ref_station_fresh, ref_station_lock, ref_station_unlock, ref_station_clear,
+    ref_station_frame, ref_station_reply
 };
 
 /* ---- the inputs ---- */
@@ -45,6 +55,12 @@ static const struct side reference = {
 static struct site site;                /* 128 users, 64 partitions */
 static struct tables empty, full, last;     /* last: full, and station 63 at its last turn */
 static uint8_t locks[LOCKS], stations[STATIONS];
+
+/* A station that waits for nothing, with no locks and with 64; and one that
+ * waits for a lock, with no locks and with 63. */
+static struct state idle_empty, idle_full, waits_empty, waits_full;
+static uint8_t state[STATE_LEN];
+static uint8_t first_string[14], new_string[14];
 
 static void serve(struct tables *tables, uint32_t number, const struct frame *frame)
 {
@@ -60,13 +76,20 @@ static void name_frame(struct frame *frame, uint8_t code, const uint8_t *row, si
     frame->len = len;
 }
 
-/* A lock or unlock of a record of a file: file name 8, record number 5. */
+/* The string of a record of a file, its length first: file name 8, record number 5. */
+static void record_string(uint8_t string[14], unsigned record)
+{
+    char name[14];
+    snprintf(name, sizeof name, "CUSTOMER%05u", record % 100000);
+    string[0] = 13;
+    memcpy(string + 1, name, 13);
+}
+
 static void string_frame(struct frame *frame, uint8_t code, unsigned record)
 {
     memset(frame, 0, sizeof *frame);
     frame->bytes[0] = code;
-    frame->bytes[1] = 13;
-    snprintf((char *)frame->bytes + 2, 14, "CUSTOMER%05u", record % 100000);
+    record_string(frame->bytes + 1, record);
     frame->len = 15;
 }
 
@@ -101,6 +124,19 @@ static void make_tables(struct tables *tables, unsigned logins, unsigned strings
     }
 }
 
+/* So many locks listed, and the one after them awaited or not. */
+static void make_state(struct state *made, unsigned listed, int waits)
+{
+    memset(made, 0, sizeof *made);
+    made->len = STATE_LEN;
+    for (unsigned i = 0; i < listed; i++)
+        record_string(made->bytes + 14 * i, i);
+    if (!waits)
+        return;
+    made->bytes[STATE_AWAITED] = CODE_LOCK;
+    record_string(made->bytes + STATE_AWAITED + 1, listed);
+}
+
 static void make_inputs(void)
 {
     struct rng rng = rng_from(1982);
@@ -110,46 +146,67 @@ static void make_inputs(void)
     last = full;
     last.stations[63 * 18 + 1] = 255;
     last.stations[63 * 18 + 3] = 11;
+    make_state(&idle_empty, 0, 0);
+    make_state(&idle_full, 64, 0);
+    make_state(&waits_empty, 0, 1);
+    make_state(&waits_full, 63, 1);
+    record_string(first_string, 0);
+    record_string(new_string, 64);
 }
 
 /* ---- the cases ---- */
 
-enum what { NOTHING, CHECK_TABLES, CHECK_SITE, PLACE, FRAME, POLL };
+enum what {
+    NOTHING, CHECK_TABLES, CHECK_SITE, PLACE, FRAME, POLL,
+    STATION_FRESH, STATION_LOCK, STATION_UNLOCK, STATION_CLEAR, STATION_FRAME, STATION_REPLY
+};
 
 struct bench_case {
     const char *name;
     enum what what;
     const struct tables *tables;
     uint8_t code;
+    const struct state *state;  /* NULL for a case without a station */
 };
 
 static const struct bench_case cases[] = {
-    { "nothing", NOTHING, &empty, 0 },
-    { "check-site", CHECK_SITE, &empty, 0 },
-    { "place", PLACE, &empty, 0 },
-    { "check-tables-empty", CHECK_TABLES, &empty, 0 },
-    { "check-tables-full", CHECK_TABLES, &full, 0 },
-    { "acknowledge-empty", FRAME, &empty, CODE_ACKNOWLEDGE },
-    { "acknowledge-full", FRAME, &full, CODE_ACKNOWLEDGE },
-    { "read-empty", FRAME, &empty, CODE_READ },
-    { "read-full", FRAME, &full, CODE_READ },
-    { "write-empty", FRAME, &empty, CODE_WRITE },
-    { "write-full", FRAME, &full, CODE_WRITE },
-    { "login-empty", FRAME, &empty, CODE_LOGIN },
-    { "login-full", FRAME, &full, CODE_LOGIN },
-    { "assign-empty", FRAME, &empty, CODE_ASSIGN },
-    { "assign-full", FRAME, &full, CODE_ASSIGN },
-    { "lock-empty", FRAME, &empty, CODE_LOCK },
-    { "lock-full", FRAME, &full, CODE_LOCK },
-    { "unlock-empty", FRAME, &empty, CODE_UNLOCK },
-    { "unlock-full", FRAME, &full, CODE_UNLOCK },
-    { "clear-empty", FRAME, &empty, CODE_CLEAR },
-    { "clear-full", FRAME, &full, CODE_CLEAR },
-    { "logout-empty", FRAME, &empty, CODE_LOGOUT },
-    { "logout-full", FRAME, &full, CODE_LOGOUT },
-    { "poll-silent-empty", POLL, &empty, 0 },
-    { "poll-silent-full", POLL, &full, 0 },
-    { "poll-out-full", POLL, &last, 0 }
+    { "nothing", NOTHING, &empty, 0, NULL },
+    { "check-site", CHECK_SITE, &empty, 0, NULL },
+    { "place", PLACE, &empty, 0, NULL },
+    { "check-tables-empty", CHECK_TABLES, &empty, 0, NULL },
+    { "check-tables-full", CHECK_TABLES, &full, 0, NULL },
+    { "acknowledge-empty", FRAME, &empty, CODE_ACKNOWLEDGE, NULL },
+    { "acknowledge-full", FRAME, &full, CODE_ACKNOWLEDGE, NULL },
+    { "read-empty", FRAME, &empty, CODE_READ, NULL },
+    { "read-full", FRAME, &full, CODE_READ, NULL },
+    { "write-empty", FRAME, &empty, CODE_WRITE, NULL },
+    { "write-full", FRAME, &full, CODE_WRITE, NULL },
+    { "login-empty", FRAME, &empty, CODE_LOGIN, NULL },
+    { "login-full", FRAME, &full, CODE_LOGIN, NULL },
+    { "assign-empty", FRAME, &empty, CODE_ASSIGN, NULL },
+    { "assign-full", FRAME, &full, CODE_ASSIGN, NULL },
+    { "lock-empty", FRAME, &empty, CODE_LOCK, NULL },
+    { "lock-full", FRAME, &full, CODE_LOCK, NULL },
+    { "unlock-empty", FRAME, &empty, CODE_UNLOCK, NULL },
+    { "unlock-full", FRAME, &full, CODE_UNLOCK, NULL },
+    { "clear-empty", FRAME, &empty, CODE_CLEAR, NULL },
+    { "clear-full", FRAME, &full, CODE_CLEAR, NULL },
+    { "logout-empty", FRAME, &empty, CODE_LOGOUT, NULL },
+    { "logout-full", FRAME, &full, CODE_LOGOUT, NULL },
+    { "poll-silent-empty", POLL, &empty, 0, NULL },
+    { "poll-silent-full", POLL, &full, 0, NULL },
+    { "poll-out-full", POLL, &last, 0, NULL },
+    { "station-fresh", STATION_FRESH, &empty, 0, &idle_full },
+    { "station-lock-empty", STATION_LOCK, &empty, 0, &idle_empty },
+    { "station-lock-full", STATION_LOCK, &empty, 0, &idle_full },
+    { "station-unlock-empty", STATION_UNLOCK, &empty, 0, &idle_empty },
+    { "station-unlock-full", STATION_UNLOCK, &empty, 0, &idle_full },
+    { "station-clear-empty", STATION_CLEAR, &empty, 0, &idle_empty },
+    { "station-clear-full", STATION_CLEAR, &empty, 0, &idle_full },
+    { "station-frame-empty", STATION_FRAME, &empty, 0, &waits_empty },
+    { "station-frame-full", STATION_FRAME, &empty, 0, &waits_full },
+    { "station-reply-empty", STATION_REPLY, &empty, 0, &waits_empty },
+    { "station-reply-full", STATION_REPLY, &empty, 0, &waits_full }
 };
 enum { CASES = sizeof cases / sizeof *cases };
 
@@ -178,12 +235,27 @@ static void frame_of(const struct bench_case *c, struct frame *frame)
     }
 }
 
+/* Lock asks for a new string, unlock for the first of the list, so that all others move. */
+static uint64_t call_station(const struct side *side, const struct bench_case *c)
+{
+    uint8_t buffer[15];
+    switch (c->what) {
+    case STATION_FRESH:  return side->station_fresh(state, STATE_LEN);
+    case STATION_LOCK:   return side->station_lock(state, STATE_LEN, new_string);
+    case STATION_UNLOCK: return side->station_unlock(state, STATE_LEN, first_string);
+    case STATION_CLEAR:  return side->station_clear(state, STATE_LEN);
+    case STATION_FRAME:  return side->station_frame(state, STATE_LEN, buffer, sizeof buffer);
+    default:             return side->station_reply(state, STATE_LEN, 0x00);
+    }
+}
+
 static uint64_t call_once(const struct side *side, const struct bench_case *c,
                           const struct frame *frame)
 {
     const uint8_t *row = site_partition(&site, 63);
     memcpy(locks, c->tables->locks, LOCKS);
     memcpy(stations, c->tables->stations, STATIONS);
+    memcpy(state, (c->state != NULL ? c->state : &idle_empty)->bytes, STATE_LEN);
     switch (c->what) {
     case CHECK_TABLES: return side->check_tables(locks, LOCKS, stations, STATIONS);
     case CHECK_SITE:   return side->check_site(site.bytes, site.len);
@@ -192,7 +264,8 @@ static uint64_t call_once(const struct side *side, const struct bench_case *c,
                                           site.bytes, site.len,
                                           locks, LOCKS, stations, STATIONS);
     case POLL:         return side->poll(number_of(c), 0, locks, LOCKS, stations, STATIONS);
-    default:           return 0;
+    case NOTHING:      return 0;
+    default:           return call_station(side, c);
     }
 }
 
