@@ -1,5 +1,6 @@
 // The entries for the box's C program: numbers and byte slices in, one word out (specs/Packing.antt). Each is thin over
 // the proved library and takes any input. A number that is too large for what it means is refused and never cut to a byte.
+// Here stand the master's; the station's stand in station_end.rt.
 mod packing;
 mod station_end;
 
