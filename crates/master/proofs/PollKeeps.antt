@@ -8,13 +8,14 @@ use lib.Dec.{eqb}
 use lib.ListN.{length}
 use borrow.Author.Tests.{eq-eqb, ne-eqb}
 use Rattle.rows.proofs.BoolLaws.{by-test, by-eq}
-use Rattle.rows.proofs.RowLaws.{length-row, length-part}
+use Rattle.rows.proofs.RowLaws.{length-row, length-part, row-setRow}
 use Rattle.rows.specs.Rows.{row, setRow}
 use Rattle.terms.specs.declared.LockString.{LockString}
 use Rattle.who.specs.declared.Station.{Station}
 use Rattle.who.specs.Records.{flag, bytesOf, stationOf}
-use Rattle.who.specs.Good.{numbers}
+use Rattle.who.specs.Good.{goodCounts, numbers}
 use Rattle.who.specs.Logins.{loggedIn, afterLogin, afterLogout}
+use Rattle.who.proofs.RecordLaws.{counts-is, length-bytesOf, station-back}
 use Rattle.who.proofs.TurnLaws.{turn-good}
 use Rattle.who.proofs.WhoLaws.{good-is, logged-at, login-good, login-logged, login-other, logout-other}
 use Rattle.locks.specs.Good.{locks, goodLocks}
@@ -85,17 +86,27 @@ module _ (n : ℕ) (heard : Bool) (t w : List ℕ) where
       unfolding after afterTurn withCounts stationAt stationOf
       still-in = sym (logged-at w sized n below) ∙ in-now
 
-      turned-logged : (m : ℕ) → loggedIn (setRow 18 w n (bytesOf (afterTurn (stationAt w n) heard))) m ≡ loggedIn w m
+      pub turned-logged : (m : ℕ) → loggedIn (setRow 18 w n (bytesOf (afterTurn (stationAt w n) heard))) m ≡ loggedIn w m
       unfolding after afterLogin
       turned-logged m = login-logged w sized n below after name-long serial-long m ∙ by-eq m n
           (λ (e : m ≡ n). rw (e, eq-eqb n n refl, still-in) (sym in-now))
           (λ ne. rw (ne-eqb m n ne))
 
+      -- and reads back as that station
+      turned-counts : outAt w n heard ≡ false → goodCounts (after .misses) (after .slow) ≡ true
+      unfolding after afterTurn withCounts outAt
+      turned-counts on = turn-good (stationAt w n .misses) (stationAt w n .slow) (polled-counts n t w good in-now) heard on
+
+      pub turned-station : outAt w n heard ≡ false → stationAt (setRow 18 w n (bytesOf (afterTurn (stationAt w n) heard))) n ≡ afterTurn (stationAt w n) heard
+      unfolding after stationAt
+      turned-station on =
+          rw (row-setRow 18 numbers w (omega (arith, sized)) n below (bytesOf after) (length-bytesOf after name-long serial-long))
+          (station-back after name-long serial-long (omega (arith, counts-is _ _ (turned-counts on) .few)))
+
       turned-tables : (n ≡ 0 → ⊥) → outAt w n heard ≡ false → goodTables t (setRow 18 w n (bytesOf (afterTurn (stationAt w n) heard))) ≡ true
-      unfolding goodLocks after afterLogin afterTurn withCounts outAt
+      unfolding goodLocks after afterLogin
       turned-tables ne on = tables-are _ _
-          (login-good w (records-good t w good) n (omega arith) below after name-long serial-long still-in
-          (turn-good (stationAt w n .misses) (stationAt w n .slow) (polled-counts n t w good in-now) heard on))
+          (login-good w (records-good t w good) n (omega arith) below after name-long serial-long still-in (turned-counts on))
           (login-keeps locks w t (locks-good t w good) _ (λ a i. turned-logged a ∙ i))
 
     -- good tables stay good
