@@ -1,0 +1,67 @@
+-- A station that follows the station rules, from its login until the master logs it out.
+--
+-- `Follows k h at st` says: in the run h a station logged in under the number k, by the event with index `at`. Since then it has kept the
+-- station rules, nobody else has sent a frame under k, the master has not logged it out, and its state is now st. `at` is its name:
+-- each login is a station of its own.
+--
+-- Losses. A request that is lost reaches nobody: no event, and the station's state stays. A reply that is lost is `sends`: the master
+-- has served the frame, and the station's state stays. Only `hears` takes a reply, in the exchange of its own frame.
+--
+-- A station that logs out, resets or logs in again does nothing more under k. What it leaves behind is its state as it was, until the
+-- master logs k out. The relation allows more than the rules do where that costs nothing: an ask while it waits, which is refused,
+-- and steps after a logout that the master refused.
+use Prim.Native.Nat.{ℕ}
+use mathlib.Core.Path.{_≡_}
+use mathlib.Core.Bool.{Bool, true, false, _||_}
+use mathlib.Core.List.{List, [], _∷_}
+use lib.Dec.{eqb}
+use lib.ListN.{length, take}
+use Rattle.terms.specs.declared.LockString.{LockString}
+use Rattle.frames.specs.Table.{ACKNOWLEDGE, READ, WRITE, ASSIGN, LOGOUT}
+use Rattle.frames.specs.Reading.{code}
+use Rattle.who.specs.Logins.{loggedIn}
+use Rattle.master.specs.Answers.{answers}
+use Rattle.master.specs.Refusals.{ANYBODY}
+use Rattle.station.specs.Asks.{waits, afterLock, afterUnlock, afterClear, Asks, freshState, sentOf, bufferAfter}
+use Rattle.station.specs.Replies.{Replies}
+use Rattle.exchange.specs.Runs.{frame, turn, Run, _then_, size, tables, answerIn}
+
+-- while waiting it may also acknowledge, read, write or assign
+unfoldable pub sideFrame : List ℕ → Bool
+sideFrame f = (eqb (code f) ACKNOWLEDGE || eqb (code f) READ) || (eqb (code f) WRITE || eqb (code f) ASSIGN)
+
+-- the frame that a station sends: what its entry `send` leaves at the start of a lent buffer b
+unfoldable pub sent : List ℕ → List ℕ → List ℕ
+sent st b = take (sentOf st (length b) .length) (bufferAfter st b)
+
+pub data Follows (k : ℕ) : Run → ℕ → List ℕ → Type 0 where
+  -- a login at 253 that is answered with the number k, not 0: a fresh state
+  logs-in : (h : Run) (f s : List ℕ) (found serial : ℕ) → (k ≡ 0 → ⊥)
+      → answerIn h ANYBODY f s ≡ answers (k ∷ found ∷ serial ∷ [])
+      → Follows k (h then frame ANYBODY f s) (size h) freshState
+  -- any frame of anybody else, at any other number, with any site file
+  others : {h : Run} {at : ℕ} {st : List ℕ} (n : ℕ) (f s : List ℕ) → (n ≡ k → ⊥)
+      → Follows k h at st → Follows k (h then frame n f s) at st
+  -- a poll turn of any number, heard or not, that does not log the station out
+  polled : {h : Run} {at : ℕ} {st : List ℕ} (n : ℕ) (heard : Bool) → loggedIn (tables (h then turn n heard) .records) k ≡ true
+      → Follows k h at st → Follows k (h then turn n heard) at st
+  -- it asks for a lock, for an unlock or for a clear; an ask that is refused leaves its state as it was
+  asks-lock : {h : Run} {at : ℕ} {st : List ℕ} (x : LockString) → length (x .bytes) ≡ 13 → (r : ℕ) (st′ : List ℕ) → Asks st (afterLock st x) r st′
+      → Follows k h at st → Follows k h at st′
+  asks-unlock : {h : Run} {at : ℕ} {st : List ℕ} (x : LockString) → length (x .bytes) ≡ 13 → (r : ℕ) (st′ : List ℕ) → Asks st (afterUnlock st x) r st′
+      → Follows k h at st → Follows k h at st′
+  asks-clear : {h : Run} {at : ℕ} {st : List ℕ} (r : ℕ) (st′ : List ℕ) → Asks st afterClear r st′
+      → Follows k h at st → Follows k h at st′
+  -- it sends the frame awaited, at as many polls as it likes, and the reply is lost
+  sends : {h : Run} {at : ℕ} {st : List ℕ} (b s : List ℕ)
+      → Follows k h at st → Follows k (h then frame k (sent st b) s) at st
+  -- or the reply comes, and the station takes it
+  hears : {h : Run} {at : ℕ} {st : List ℕ} (b s : List ℕ) (status r : ℕ) (st′ : List ℕ)
+      → answerIn h k (sent st b) s ≡ answers (status ∷ []) → Replies st status r st′
+      → Follows k h at st → Follows k (h then frame k (sent st b) s) at st′
+  -- it acknowledges, reads, writes or assigns; what comes back is no reply here
+  sides : {h : Run} {at : ℕ} {st : List ℕ} (f s : List ℕ) → sideFrame f ≡ true
+      → Follows k h at st → Follows k (h then frame k f s) at st
+  -- it logs out while it waits for nothing; where the master refuses the frame it is still logged in
+  logs-out : {h : Run} {at : ℕ} {st : List ℕ} (s : List ℕ) → waits st ≡ false → loggedIn (tables (h then frame k (LOGOUT ∷ k ∷ []) s) .records) k ≡ true
+      → Follows k h at st → Follows k (h then frame k (LOGOUT ∷ k ∷ []) s) at st
