@@ -5,3 +5,6 @@ pub mod Counting
 pub mod Invariant
 pub mod Logins
 pub mod Promised
+pub mod Told
+pub mod Silences
+pub mod Happened

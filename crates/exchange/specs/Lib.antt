@@ -1,3 +1,4 @@
 pub mod Runs
 pub mod Following
 pub mod Promise
+pub mod Story

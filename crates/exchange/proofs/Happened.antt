@@ -1,0 +1,98 @@
+-- The story happens.
+use Prim.Native.Nat.{ℕ}
+use native.Mathlib.Omega.{arith}
+use mathlib.Core.Path.{_≡_, refl, ap}
+use mathlib.Core.Bool.{Bool, true, false}
+use mathlib.Core.List.{List, [], _∷_}
+use lib.ListN.{getD}
+use Rattle.who.specs.Good.{goodCounts}
+use Rattle.who.specs.Logins.{loggedIn}
+use Rattle.who.proofs.TurnLaws.{turnsLeft}
+use Rattle.master.specs.Answers.{Told, refuses}
+use Rattle.master.specs.Refusals.{ANYBODY}
+use Rattle.station.specs.Asks.{askRefusal, afterLock, afterUnlock, Asks, freshState}
+use Rattle.station.specs.Replies.{replyRefusal, Replies}
+use Rattle.exchange.specs.Runs.{frame, start, _then_, size, tables}
+use Rattle.exchange.specs.Following.{Follows, logs-in, others, asks-lock, asks-unlock, sends, hears}
+use Rattle.exchange.specs.Promise.{holds, lists}
+use Rattle.exchange.specs.Story.{A, site, login, buffer, asked, replied, locksA, unlocksA, one-locks, one-holds, one-unlocks, one-free, two-locks, two-denied, two-again, two-holds, from, logins, one-has-it, two-has-it, answersIn, said, silent, Happens}
+use Rattle.exchange.proofs.Invariant.{run-good, out-holds, invariant}
+use Rattle.exchange.proofs.Silences.{Stands, silent-follows, silent-out}
+use Rattle.exchange.proofs.Told.{story-told, story-lists, two-counts}
+
+-- the answer to event i
+told : (i : ℕ) → getD (answersIn two-has-it) i (refuses 0) ≡ getD said i (refuses 0)
+told i = ap (λ (l : List Told). getD l i (refuses 0)) story-told
+
+-- an ask and a reply leave what the story says
+asks : (st next : List ℕ) → Asks st next (askRefusal st) (asked st next)
+unfolding asked
+asks st next = record { answer = refl; left = refl }
+
+takes : (st : List ℕ) (b : ℕ) → Replies st b (replyRefusal st b) (replied st b)
+unfolding replied
+takes st b = record { answer = refl; left = refl }
+
+-- station 1
+one-in : Follows 1 logins 0 freshState
+unfolding logins one-has-it two-has-it from answersIn said size
+one-in = others ANYBODY login site (λ e. omega arith) (logs-in start login site 0 0 (λ e. omega arith) (told 0))
+
+one-waits : Follows 1 logins 0 one-locks
+unfolding one-locks locksA A
+one-waits = asks-lock A refl _ _ (asks freshState (afterLock freshState A)) one-in
+
+one-locked : Follows 1 one-has-it 0 one-holds
+unfolding logins one-has-it two-has-it from answersIn said one-holds
+one-locked = hears buffer site 0x81 _ _ (told 4) (takes one-locks 0x81) (others 2 _ site (λ e. omega arith) (sends buffer site one-waits))
+
+one-unlocked : Follows 1 two-has-it 0 one-free
+unfolding logins one-has-it two-has-it from answersIn said one-free one-unlocks unlocksA A
+one-unlocked = others 2 _ site (λ e. omega arith) (
+    hears buffer site 0x02 _ _ (told 6) (takes one-unlocks 0x02) (
+    sends buffer site (asks-unlock A refl _ _ (asks one-holds (afterUnlock one-holds A)) one-locked)))
+
+-- station 2
+two-in : Follows 2 logins 1 freshState
+unfolding logins one-has-it two-has-it from answersIn said size
+two-in = logs-in (start then frame ANYBODY login site) login site 0 0 (λ e. omega arith) (told 1)
+
+two-asked : Follows 2 one-has-it 1 two-denied
+unfolding logins one-has-it two-has-it from answersIn said two-denied two-locks locksA A
+two-asked = others 1 _ site (λ e. omega arith) (
+    hears buffer site 0x01 _ _ (told 3) (takes two-locks 0x01) (
+    others 1 _ site (λ e. omega arith) (asks-lock A refl _ _ (asks freshState (afterLock freshState A)) two-in)))
+
+two-locked : Follows 2 two-has-it 1 two-holds
+unfolding logins one-has-it two-has-it from answersIn said two-holds two-again locksA A
+two-locked = hears buffer site 0x00 _ _ (told 7) (takes two-again 0x00) (
+    asks-lock A refl _ _ (asks two-denied (afterLock two-denied A)) (
+    others 1 _ site (λ e. omega arith) (others 1 _ site (λ e. omega arith) two-asked)))
+
+two-stands : Stands 2 0 0 two-has-it
+unfolding goodCounts
+two-stands = record { inside = invariant 2 two-locked .inside; counts = refl; misses = two-counts .0; slow = two-counts .1 }
+
+two-out : loggedIn (tables (silent 2 1312 two-has-it) .records) 2 ≡ false
+unfolding turnsLeft
+two-out = silent-out 2 (λ e. omega arith) 1311 two-stands refl
+
+-- who lists "A"
+listing : (i : ℕ) → getD (lists one-holds A ∷ lists two-denied A ∷ lists one-free A ∷ lists two-holds A ∷ []) i false ≡ getD (true ∷ false ∷ false ∷ true ∷ []) i false
+listing i = ap (λ (l : List Bool). getD l i false) story-lists
+
+pub happens : Happens
+unfolding turnsLeft holds
+happens = record {
+  one-locked = one-locked;
+  one-lists = listing 0;
+  two-asked = two-asked;
+  two-lists-not = listing 1;
+  one-unlocked = one-unlocked;
+  one-lists-not = listing 2;
+  two-locked = two-locked;
+  two-lists = listing 3;
+  two-silent = silent-follows 2 (λ e. omega arith) 1311 two-stands (omega arith) two-locked;
+  two-out = two-out;
+  two-holds-not = out-holds _ _ (run-good (silent 2 1312 two-has-it)) 2 two-out A;
+}

@@ -1,0 +1,92 @@
+-- A station that is polled and never heard: in until its last turn, and out then, with its locks.
+use Prim.Native.Nat.{ℕ, zero, suc, _*_, _<_}
+use native.Mathlib.Omega.{arith}
+use mathlib.Core.Path.{_≡_, refl, _∙_}
+use mathlib.Core.Bool.{true, false, not}
+use mathlib.Core.List.{List}
+use lib.ListN.{length}
+use borrow.Author.Tests.{eq-eqb, ne-eqb}
+use Rattle.who.specs.Good.{goodCounts, numbers}
+use Rattle.who.specs.Logins.{loggedIn}
+use Rattle.who.specs.Turns.{missesAfter, slowAfter, isOut}
+use Rattle.who.proofs.TurnLaws.{turnsLeft, out-last, silent-left, turn-good}
+use Rattle.who.proofs.WhoLaws.{good-is, logged-below}
+use Rattle.master.specs.Tables.{goodTables}
+use Rattle.master.specs.Refusals.{ANYBODY, unknown}
+use Rattle.master.specs.Polls.{stationAt, outAt, withCounts, afterTurn, turnRecords, pollRefusal, pollRecords}
+use Rattle.master.proofs.Deeds.{records-good}
+use Rattle.master.proofs.Keeps.{logout-out}
+use Rattle.master.proofs.PollKeeps.{turned-logged, turned-station}
+use Rattle.exchange.specs.Runs.{turn, Run, _then_, after, tables}
+use Rattle.exchange.specs.Following.{Follows, polled}
+use Rattle.exchange.specs.Story.{silent}
+use Rattle.exchange.proofs.Invariant.{run-good}
+
+-- k is logged in, with these misses and slow turns
+pub record Stands (k m s : ℕ) (h : Run) : Type 0 where
+  pub inside : loggedIn (tables h .records) k ≡ true
+  pub counts : goodCounts m s ≡ true
+  pub misses : stationAt (tables h .records) k .misses ≡ m
+  pub slow : stationAt (tables h .records) k .slow ≡ s
+
+module _ (k : ℕ) (nz : k ≡ 0 → ⊥) where
+  -- one turn that is not heard is not refused
+  module _ (t w : List ℕ) (good : goodTables t w ≡ true) (in-now : loggedIn w k ≡ true) where
+    sized : length w ≡ 18 * numbers
+    sized = good-is w (records-good t w good) .sized
+
+    below : k < numbers
+    below = logged-below w sized k in-now
+
+    unheard : pollRecords k false t w ≡ turnRecords k false w
+    unfolding pollRecords pollRefusal unknown
+    unheard = rw (good, in-now, ne-eqb k 0 nz, ne-eqb k ANYBODY (λ (e : k ≡ ANYBODY). omega (arith, below)))
+
+    drops : outAt w k false ≡ true → loggedIn (pollRecords k false t w) k ≡ false
+    unfolding turnRecords
+    drops out = rw (unheard, out) (logout-out t w good k in-now k ∙ rw (eq-eqb k k refl))
+
+    -- what its record says after a turn that leaves it in
+    stays-in : outAt w k false ≡ false → loggedIn (pollRecords k false t w) k ≡ true
+    unfolding turnRecords
+    stays-in on = rw (unheard, on) (turned-logged k false t w good in-now k ∙ in-now)
+
+    turned-to : outAt w k false ≡ false → stationAt (pollRecords k false t w) k ≡ afterTurn (stationAt w k) false
+    unfolding turnRecords
+    turned-to on = rw (unheard, on) (turned-station k false t w good in-now on)
+
+  module _ {m s : ℕ} {h : Run} (st : Stands k m s h) where
+    out-is : outAt (tables h .records) k false ≡ isOut m s false
+    unfolding outAt
+    out-is = rw (st .misses, st .slow)
+
+    -- a turn that is not heard, and that is not the last one
+    next : isOut m s false ≡ false → Stands k (missesAfter m s false) (slowAfter m s) (h then turn k false)
+    unfolding tables after afterTurn withCounts
+    next on =
+        let now = turned-to _ _ (run-good h) (st .inside) (out-is ∙ on) in record {
+          inside = stays-in _ _ (run-good h) (st .inside) (out-is ∙ on);
+          counts = turn-good m s (st .counts) false on;
+          misses = rw (now, st .misses, st .slow);
+          slow = rw (now, st .misses, st .slow);
+        }
+
+    -- the last one
+    last : isOut m s false ≡ true → loggedIn (tables (h then turn k false) .records) k ≡ false
+    unfolding tables after
+    last out = drops _ _ (run-good h) (st .inside) (out-is ∙ out)
+
+    on-yet : (j : ℕ) → suc j < turnsLeft m s → isOut m s false ≡ false
+    on-yet j l = out-last m s (st .counts) ∙ ne-eqb (turnsLeft m s) 1 (λ e. omega arith)
+
+  pub silent-follows : (j : ℕ) {m s at : ℕ} {h : Run} {st : List ℕ} → Stands k m s h → j < turnsLeft m s → Follows k h at st → Follows k (silent k j h) at st
+  unfolding silent
+  silent-follows zero p l d = d
+  silent-follows (suc j) {m} {s} p l d =
+      let on = on-yet p j l in
+      silent-follows j (next p on) (omega (arith, silent-left m s (p .counts) on)) (polled k false (next p on .inside) d)
+
+  pub silent-out : (j : ℕ) {m s : ℕ} {h : Run} → Stands k m s h → turnsLeft m s ≡ suc j → loggedIn (tables (silent k (suc j) h) .records) k ≡ false
+  unfolding silent
+  silent-out zero {m} {s} st e = last st (out-last m s (st .counts) ∙ rw e)
+  silent-out (suc j) {m} {s} st e = let on = on-yet st j (omega arith) in silent-out j (next st on) (omega (arith, silent-left m s (st .counts) on))
