@@ -10,7 +10,7 @@ use Rattle.terms.specs.declared.LockString.{LockString}
 use Rattle.terms.specs.Strings.{sameString}
 use Rattle.frames.specs.Table.{LOCK}
 use Rattle.locks.specs.Holding.{has}
-use Rattle.station.specs.State.{isListed, codeIn, askedIn, nothing}
+use Rattle.station.specs.State.{isListed, codeIn, askedIn}
 use Rattle.station.specs.Replies.{grants}
 use Rattle.exchange.proofs.Settling.{pending, locking, Settles}
 

@@ -16,7 +16,8 @@ use Rattle.exchange.specs.Runs.{frame, start, _then_, size, tables}
 use Rattle.exchange.specs.Following.{Follows, logs-in, others, asks-lock, asks-unlock, sends, hears}
 use Rattle.exchange.specs.Promise.{holds, lists}
 use Rattle.exchange.specs.Story.{A, site, login, buffer, asked, replied, locksA, unlocksA, one-locks, one-holds, one-unlocks, one-free, two-locks, two-denied, two-again, two-holds, from, logins, one-has-it, two-has-it, answersIn, said, silent, Happens}
-use Rattle.exchange.proofs.Invariant.{run-good, out-holds, invariant}
+use Rattle.exchange.proofs.OneNumber.{out-holds}
+use Rattle.exchange.proofs.Invariant.{run-good, invariant}
 use Rattle.exchange.proofs.Silences.{Stands, silent-follows, silent-out}
 use Rattle.exchange.proofs.Told.{story-told, story-lists, two-counts}
 

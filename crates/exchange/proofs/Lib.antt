@@ -2,6 +2,8 @@ pub mod OwnFrames
 pub mod Settling
 pub mod Agreement
 pub mod Counting
+pub mod OneNumber
+pub mod Steps
 pub mod Invariant
 pub mod Logins
 pub mod Promised

@@ -1,7 +1,7 @@
 -- Demand 3 is kept.
 use Prim.Native.Nat.{ℕ, _≤_}
 use mathlib.Core.Path.{_≡_, sym, subst, _∙_}
-use mathlib.Core.Bool.{true, false, not}
+use mathlib.Core.Bool.{true, false}
 use mathlib.Core.List.{List, [], _∷_}
 use lib.ListN.{length}
 use borrow.Author.Tests.{eqb-true, not-false}
@@ -20,7 +20,8 @@ use Rattle.exchange.specs.Following.{sent, Follows}
 use Rattle.exchange.specs.Promise.{holds, lists, Promise}
 use Rattle.exchange.proofs.Settling.{own-answer}
 use Rattle.exchange.proofs.Agreement.{agree-same}
-use Rattle.exchange.proofs.Invariant.{run-good, table, no-mark, invariant, taken}
+use Rattle.exchange.proofs.OneNumber.{table, no-mark}
+use Rattle.exchange.proofs.Invariant.{run-good, invariant, taken}
 use Rattle.exchange.proofs.Logins.{one-number}
 
 -- waiting for nothing

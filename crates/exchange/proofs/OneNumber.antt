@@ -1,0 +1,59 @@
+-- What the master's tables say of one number, and what a login and a poll turn do to it.
+use Prim.Native.Nat.{ℕ}
+use native.Mathlib.Omega.{arith}
+use mathlib.Core.Path.{_≡_, refl, sym, _∙_}
+use mathlib.Core.Bool.{Bool, true, false}
+use mathlib.Core.List.{List}
+use borrow.Author.Tests.{eq-eqb}
+use Rattle.rows.proofs.BoolLaws.{both, refuted}
+use Rattle.terms.specs.declared.LockString.{LockString}
+use Rattle.who.specs.Logins.{loggedIn, lowestFree}
+use Rattle.who.proofs.WhoLaws.{good-is, logged-below, lowest-free-is}
+use Rattle.locks.specs.Good.{locks, goodLocks}
+use Rattle.locks.specs.Holding.{has}
+use Rattle.locks.proofs.GoodLaws as tableLaws
+use Rattle.locks.proofs.HoldingLaws.{held-in}
+use Rattle.master.specs.Tables.{goodTables}
+use Rattle.master.specs.Answers.{Told}
+use Rattle.master.proofs.Deeds.{records-good, locks-good, loginNumber, Deed, refused, quiet, logged-in, locked, unlocked, cleared, logged-out}
+use Rattle.master.proofs.Keeps.{login-in, logout-out}
+use Rattle.master.proofs.PollKeeps.{TurnDeed}
+
+module _ (t w : List ℕ) (good : goodTables t w ≡ true) where
+  pub table : tableLaws.Good locks w t
+  unfolding goodLocks
+  table = tableLaws.good-is locks w t (locks-good t w good)
+
+  -- who is out holds nothing
+  pub out-holds : (k : ℕ) → loggedIn w k ≡ false → (y : LockString) → has t k y ≡ false
+  out-holds k out y = sym (refuted (has t k y) (λ h. both (held-in table k y h) out))
+
+  -- a number that is logged in is no free row's mark
+  pub no-mark : (k : ℕ) → loggedIn w k ≡ true → k ≡ 0xFF → ⊥
+  no-mark k i e = omega (arith, logged-below w (good-is w (records-good t w good) .sized) k i)
+
+  -- a login takes a number that was out, and leaves the lock table
+  pub record Enters (k : ℕ) (t′ w′ : List ℕ) : Type 0 where
+    pub was-out : loggedIn w k ≡ false
+    pub is-in : loggedIn w′ k ≡ true
+    pub same-locks : t′ ≡ t
+
+  pub enters : (n k : ℕ) (f s : List ℕ) (a : Told) (t′ w′ : List ℕ) → Deed n f s t w a t′ w′ → loginNumber a ≡ k → (k ≡ 0 → ⊥) → Enters k t′ w′
+  unfolding loginNumber
+  enters n k f s a t′ w′ (refused j ne) e nz = absurd (nz (sym e))
+  enters n k f s a t′ w′ (quiet vs z) e nz = absurd (nz (sym e ∙ z))
+  enters n k f s a t′ w′ (logged-in at free name serial product found n8 s4) e nz = record {
+    was-out = rw (← e) (lowest-free-is w (good-is w (records-good t w good) .sized) free .1);
+    is-in = login-in t w good free name serial product found n8 s4 k ∙ rw (eq-eqb k (lowestFree w) (sym e));
+    same-locks = refl;
+  }
+  enters n k f s a t′ w′ (locked i x b) e nz = absurd (nz (sym e))
+  enters n k f s a t′ w′ (unlocked i x) e nz = absurd (nz (sym e))
+  enters n k f s a t′ w′ (cleared i) e nz = absurd (nz (sym e))
+  enters n k f s a t′ w′ (logged-out i ne) e nz = absurd (nz (sym e))
+
+  -- a poll turn that leaves k logged in leaves what k holds
+  pub turn-holds : (n : ℕ) (heard : Bool) (k : ℕ) (a : Told) (t′ w′ : List ℕ) → TurnDeed n heard t w a t′ w′ → n ≡ k → loggedIn w′ k ≡ true → (y : LockString) → has t′ k y ≡ has t k y
+  turn-holds n heard k a t′ w′ (TurnDeed.refused j ne) e i y = refl
+  turn-holds n heard k a t′ w′ (TurnDeed.turned i₀ ne on) e i y = refl
+  turn-holds n heard k a t′ w′ (TurnDeed.dropped i₀ ne out) e i y = both i (logout-out t w good n i₀ k ∙ rw (eq-eqb k n (sym e)))
