@@ -1,13 +1,12 @@
 -- Reading a frame: 1, 3, 4 or 6 in that order, or the request.
 use Prim.Native.Nat.{ℕ}
-use mathlib.Core.Bool.{Bool, cond, not, _&&_}
+use mathlib.Core.Bool.{cond, not, _&&_}
 use mathlib.Core.List.{List}
 use lib.Dec.{eqb}
 use lib.ListN.{length, getD, replicate}
 use Rattle.rows.specs.Rows.{part}
 use Rattle.rows.specs.Numbers.{lowFirst}
 use Rattle.terms.specs.declared.Address.{Address}
-use Rattle.terms.specs.declared.LockString.{LockString}
 use Rattle.frames.specs.declared.Command.{Command}
 use Rattle.frames.specs.declared.Command.the-variants.{Acknowledge, Read, Write, Login, Assign, Lock, Unlock, Clear, Logout}
 use Rattle.frames.specs.declared.Request.{Request}

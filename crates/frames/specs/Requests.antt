@@ -1,7 +1,5 @@
 -- What a request is: its command, and of the byte fields beside it those that the command carries.
-use mathlib.Core.List.{List}
 use lib.ListN.{replicate}
-use Prim.Native.Nat.{ℕ}
 use Rattle.terms.specs.declared.LockString.{LockString}
 use Rattle.frames.specs.declared.Command.{Command}
 use Rattle.frames.specs.declared.Command.the-variants.{Acknowledge, Read, Write, Login, Assign, Lock, Unlock, Clear, Logout}

@@ -4,8 +4,6 @@ use mathlib.Core.List.{List}
 use lib.ListN.{getD}
 use Rattle.rows.specs.Rows.{part}
 use Rattle.rows.specs.Numbers.{lowFirst}
-use Rattle.terms.specs.declared.Volume.{Volume}
-use Rattle.terms.specs.declared.Partition.{Partition}
 use Rattle.site.specs.declared.PartitionRow.{PartitionRow}
 
 -- a header of four 16-bit numbers

@@ -12,7 +12,7 @@ use Rattle.frames.specs.declared.Command.{Command}
 use Rattle.frames.specs.declared.Command.the-variants.{Lock, Unlock, Clear}
 use Rattle.frames.specs.Table.{LOCK, UNLOCK, CLEAR}
 use Rattle.station.specs.declared.Sent.{Sent}
-use Rattle.station.specs.State.{listLength, listOf, waitOf, isListed, placeOf, struckAt, codeIn, askedIn, nothing}
+use Rattle.station.specs.State.{listLength, listOf, waitOf, isListed, placeOf, struckAt, codeIn, nothing}
 use Rattle.station.specs.Good.{goodState}
 
 -- a reply is awaited

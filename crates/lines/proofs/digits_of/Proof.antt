@@ -1,5 +1,4 @@
 use native.Mathlib.Omega.{arith}
-use Rattle.lines.specs.Line.{digit}
 use Rattle.lines.proofs.DigitLaws.{Spelling, spelling-begins, spelling-room, spelling-on, spelling-ends}
 use Rattle.lines.proofs.digits_of.Statement.{statement}
 use Rattle.lines.proofs.digits_of.Tie as tie

@@ -5,7 +5,6 @@ use mathlib.Core.Bool.{false, not, _&&_, true}
 use lib.ListN.{take, drop, length}
 use Rattle.station.proofs.StateLaws.{list-of, lent-long, code-at, state-is, list-long}
 use Rattle.station.proofs.ListLaws.{count-is}
-use Rattle.rows.specs.Rows.{put}
 use Rattle.rows.specs.Words.{first}
 use Rattle.terms.specs.Strings.{legal}
 use Rattle.station.specs.Replies.{grants, carriesLength, fits, adds}

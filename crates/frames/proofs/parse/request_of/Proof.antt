@@ -1,7 +1,6 @@
 use native.Mathlib.Omega.{arith}
 use borrow.Author.Tests.{ne-eqb}
 use Rattle.frames.proofs.ReadLaws.{well-is, well-long}
-use Rattle.frames.specs.Requests.{plain}
 use Rattle.frames.specs.Table.{READ, WRITE, LOGIN, ASSIGN, LOCK, UNLOCK, LOGOUT, frameTable, lengthIn, frameLength}
 use Rattle.frames.specs.Reading.{requestIn}
 use borrow.Author.Needs.{needs}

@@ -1,5 +1,5 @@
 use Rattle.site.proofs.RuleLaws.{ranged-is}
-use Rattle.site.specs.Rules.{meet, sectors}
+use Rattle.site.specs.Rules.{meet}
 use borrow.Author.Tests.{le-ltb, lt-ltb}
 use native.Mathlib.Omega.{arith}
 use Rattle.site.proofs.search.rows_meet.Statement.{statement}

@@ -5,7 +5,6 @@ use mathlib.Core.Path.{_≡_, refl, ap, _∙_}
 use mathlib.Core.List.{[], _∷_}
 use lib.ListN.{length}
 use Rattle.terms.specs.declared.LockString.{LockString}
-use Rattle.terms.specs.Strings.{normal}
 use Rattle.rows.specs.Rows.{put}
 use Rattle.rows.proofs.RowLaws.{put-next}
 use borrow.Author.Needs.{needs}
