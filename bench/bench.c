@@ -52,7 +52,8 @@ static const struct side reference = {
 
 /* ---- the inputs ---- */
 
-static struct site site;                /* 128 users, 64 partitions */
+static struct site site;                /* 128 users, 64 partitions; names share four bytes */
+static struct site apart;               /* the same, with names that differ in their first byte */
 static struct tables empty, full, last;     /* last: full, and station 63 at its last turn */
 static uint8_t locks[LOCKS], stations[STATIONS];
 
@@ -137,10 +138,20 @@ static void make_state(struct state *made, unsigned listed, int waits)
     record_string(made->bytes + STATE_AWAITED + 1, listed);
 }
 
+static void make_apart(void)
+{
+    apart = site;
+    for (unsigned i = 0; i < 128; i++)
+        apart.bytes[8 + 16 * i] = (uint8_t)i;
+    for (unsigned i = 0; i < 64; i++)
+        apart.bytes[8 + 16 * 128 + 24 * i] = (uint8_t)i;
+}
+
 static void make_inputs(void)
 {
     struct rng rng = rng_from(1982);
     site_good(&rng, &site, 128, 64, 4);
+    make_apart();
     make_tables(&empty, 1, 0);
     make_tables(&full, 63, 64);
     last = full;
@@ -157,7 +168,7 @@ static void make_inputs(void)
 /* ---- the cases ---- */
 
 enum what {
-    NOTHING, CHECK_TABLES, CHECK_SITE, PLACE, FRAME, POLL,
+    NOTHING, CHECK_TABLES, CHECK_SITE, CHECK_APART, PLACE, FRAME, POLL,
     STATION_FRESH, STATION_LOCK, STATION_UNLOCK, STATION_CLEAR, STATION_FRAME, STATION_REPLY
 };
 
@@ -172,6 +183,7 @@ struct bench_case {
 static const struct bench_case cases[] = {
     { "nothing", NOTHING, &empty, 0, NULL },
     { "check-site", CHECK_SITE, &empty, 0, NULL },
+    { "check-site-apart", CHECK_APART, &empty, 0, NULL },
     { "place", PLACE, &empty, 0, NULL },
     { "check-tables-empty", CHECK_TABLES, &empty, 0, NULL },
     { "check-tables-full", CHECK_TABLES, &full, 0, NULL },
@@ -259,6 +271,7 @@ static uint64_t call_once(const struct side *side, const struct bench_case *c,
     switch (c->what) {
     case CHECK_TABLES: return side->check_tables(locks, LOCKS, stations, STATIONS);
     case CHECK_SITE:   return side->check_site(site.bytes, site.len);
+    case CHECK_APART:  return side->check_site(apart.bytes, apart.len);
     case PLACE:        return side->place(row[14], row[15], 15, 128, site.bytes, site.len);
     case FRAME:        return side->frame(number_of(c), frame->bytes, frame->len,
                                           site.bytes, site.len,
