@@ -36,7 +36,7 @@ pub fn string_of(table: &[u8], i: usize) -> LockString
     LockString { len, bytes }
 }
 
-// Row i is used and holds s: owner and length are tested before the string is read out.
+// Row i is used and holds s: owner, length and last byte are tested before the string is read out.
 fn holds(table: &[u8], i: usize, s: LockString) -> bool
     requires { ⌜ 16 * i + 16 ≤ length (now table) ⌝ }
     ensures { λ r. ⌜ r ≡ holdsAt (now (table .entry)) s i ⌝ }
@@ -45,6 +45,9 @@ fn holds(table: &[u8], i: usize, s: LockString) -> bool
         return false;
     }
     if table[ROW * i + 1] != s.len {
+        return false;
+    }
+    if !terms::ends_as(rows::part(table, ROW * i + 2, 13), s) {
         return false;
     }
     terms::same_string(string_of(table, i), s)

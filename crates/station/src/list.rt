@@ -31,7 +31,7 @@ pub fn is_unused(list: &[u8], i: usize) -> bool
     list[PLACE * i] == 0
 }
 
-// Place i holds s: the length is tested before the string is read out.
+// Place i holds s: length and last byte are tested before the string is read out.
 fn holds(list: &[u8], i: usize, s: LockString) -> bool
     requires { ⌜ 14 * i + 14 ≤ length (now list) ⌝ }
     ensures { λ r. ⌜ r ≡ listedAt (now (list .entry)) s i ⌝ }
@@ -40,6 +40,9 @@ fn holds(list: &[u8], i: usize, s: LockString) -> bool
         return false;
     }
     if list[PLACE * i] != s.len {
+        return false;
+    }
+    if !terms::ends_as(rows::part(list, PLACE * i + 1, 13), s) {
         return false;
     }
     terms::same_string(string_at(list, i), s)

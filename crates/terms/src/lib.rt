@@ -3,7 +3,8 @@
 ghost use mathlib.Core.Path.{_≡_};
 ghost use Prim.Native.Nat.{min};
 ghost use Rattle.rows.specs.Outcomes.{Gives};
-ghost use Rattle.terms.specs.Strings.{legal, sameString, normal as normalOf};
+ghost use lib.ListN.{length};
+ghost use Rattle.terms.specs.Strings.{legal, sameString, endsAs, normal as normalOf};
 
 pub struct Volume(pub u8);
 
@@ -61,6 +62,20 @@ pub fn same_string(a: LockString, b: LockString) -> bool
     let x = a.bytes;
     let y = b.bytes;
     rows::is_same(&x[..n], &y[..n])
+}
+
+// These thirteen bytes, taken as a string as long as s, end as s does. Records of one file mostly differ in their last
+// byte, so that this tells two strings apart before either is read out.
+pub fn ends_as(bytes: &[u8], s: LockString) -> bool
+    requires { ⌜ length (now bytes) ≡ 13 ⌝ }
+    ensures { λ r. ⌜ r ≡ endsAs (now (bytes .entry)) s ⌝ }
+{
+    let n = used(s.len);
+    if n < 1 {
+        return true;
+    }
+    let own = s.bytes;
+    bytes[n - 1] == own[n - 1]
 }
 
 // The string with zeros after its length.
