@@ -85,6 +85,7 @@ listing i = ap (λ (l : List Bool). getD l i false) story-lists
 pub happens : Happens
 unfolding turnsLeft holds
 happens = record {
+  told = story-told;
   one-locked = one-locked;
   one-lists = listing 0;
   two-asked = two-asked;

@@ -81,7 +81,7 @@ one-has-it = logins then from 1 one-locks then from 2 two-locks then from 1 one-
 unfoldable pub two-has-it : Run
 two-has-it = one-has-it then from 1 one-unlocks then from 1 one-unlocks then from 2 two-again
 
--- what each event was answered
+-- what each event was answered, the lost replies too
 unfoldable pub answersIn : Run → List Told
 answersIn start = []
 answersIn (h then frame n f s) = answersIn h ++ (answerIn h n f s ∷ [])
@@ -106,6 +106,7 @@ silent k (suc j) h = silent k j (h then turn k false)
 
 -- it happens: both follow the rules all the while
 pub record Happens : Type 0 where
+  pub told : answersIn two-has-it ≡ said
   -- the reply to the lock of 1 was lost; 2 asked for the same string and heard 01; 1 sent again and heard 81
   pub one-locked : Follows 1 one-has-it 0 one-holds
   pub one-lists : lists one-holds A ≡ true
@@ -116,7 +117,7 @@ pub record Happens : Type 0 where
   pub one-lists-not : lists one-free A ≡ false
   pub two-locked : Follows 2 two-has-it 1 two-holds
   pub two-lists : lists two-holds A ≡ true
-  -- 2 falls silent: it is in for 1,311 turns, and out after the next, with its lock
+  -- 2 falls silent: it is in for 1,311 turns, and out after the next; its lock is gone with it
   pub two-silent : Follows 2 (silent 2 1311 two-has-it) 1 two-holds
   pub two-out : loggedIn (tables (silent 2 1312 two-has-it) .records) 2 ≡ false
   pub two-holds-not : holds (silent 2 1312 two-has-it) 2 A ≡ false
