@@ -15,13 +15,13 @@ use Rattle.rows.proofs.BoolLaws.{and-left, and-right, and-both}
 use Rattle.rows.proofs.IndexLaws.{all-at, all-from}
 use Rattle.rows.specs.Words.{all, build, sameAt, same, zeroAt, zeros}
 
-module _ (f : ℕ → ℕ) where
+module _ {A : Type 0} (f : ℕ → A) where
   pub length-build : (n : ℕ) → length (build f n) ≡ n
   unfolding build
   length-build zero = refl
   length-build (suc n) = simp (length-append, length-build n) (omega arith)
 
-  pub getD-build : (n k d : ℕ) → k < n → getD (build f n) k d ≡ f k
+  pub getD-build : (n k : ℕ) (d : A) → k < n → getD (build f n) k d ≡ f k
   unfolding build
   getD-build zero k d l = absurd (not-suc-le-zero l)
   getD-build (suc n) k d l = ⊎-elim
@@ -30,18 +30,18 @@ module _ (f : ℕ → ℕ) where
       (eq-or-lt-of-le (le-of-suc-le-suc l))
 
   -- a loop that stores f k at k: its begin, a turn's store and its end
-  pub build-none : (l : List ℕ) → l ≡ build f 0 ++ drop 0 l
+  pub build-none : (l : List A) → l ≡ build f 0 ++ drop 0 l
   unfolding build
   build-none l = refl
 
-  pub build-store : (l : List ℕ) (k : ℕ) → k < length l → set (build f k ++ drop k l) k (f k) ≡ build f (k + 1) ++ drop (k + 1) l
+  pub build-store : (l : List A) (k : ℕ) → k < length l → set (build f k ++ drop k l) k (f k) ≡ build f (k + 1) ++ drop (k + 1) l
   unfolding build
   build-store l k h =
-      rw (add-one, drop-cons l k 0 h)
-      (set-at (build f k) (getD l k 0) (drop (suc k) l) (f k) k (length-build k)
+      rw (add-one, drop-cons l k (f k) h)
+      (set-at (build f k) (getD l k (f k)) (drop (suc k) l) (f k) k (length-build k)
       ∙ sym (append-snoc (build f k) (f k) (drop (suc k) l)))
 
-  pub build-done : (l : List ℕ) (n k : ℕ) → k ≤ n → n ≤ k → length l ≤ n → build f k ++ drop k l ≡ build f n
+  pub build-done : (l : List A) (n k : ℕ) → k ≤ n → n ≤ k → length l ≤ n → build f k ++ drop k l ≡ build f n
   build-done l n k a b h =
       ap (λ (j : ℕ). build f j ++ drop j l) (le-antisymm a b)
       ∙ rw (drop-of-length-le l h) (append-nil (build f n))

@@ -21,7 +21,7 @@ first p zero = zero
 first p (suc n) = cond (any p n) (first p n) (cond (p n) n (suc n))
 
 -- the list of f 0, f 1, .., f (n - 1)
-unfoldable pub build : (ℕ → ℕ) → ℕ → List ℕ
+unfoldable pub build : {A : Type 0} → (ℕ → A) → ℕ → List A
 build f zero = []
 build f (suc n) = build f n ++ (f n ∷ [])
 
