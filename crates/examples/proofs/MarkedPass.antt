@@ -16,7 +16,7 @@ use Rattle.who.specs.Good.{goodCounts, goodRecord, goodAt as goodNumber, goodRe
 use Rattle.who.specs.Logins.{loggedIn, freeNumber, lowestFree as lowestNumber, loggedInAs, afterLogin, afterLogout, freshRecords}
 use Rattle.locks.specs.Row.{owner, stringOf, isFree, rowOf, holds, freed}
 use Rattle.locks.specs.Table.{holdsAt, freeAt, ownerAt, heldAt, lowestFree, isHeld, isOwn, lockStatus, lockTable, unlocks as freesLock, unlockStatus, unlockTable, clearedTable}
-use Rattle.locks.specs.Good.{goodRow, goodAt, aloneAt, goodRows, goodLocks, freshLocks}
+use Rattle.locks.specs.Good.{soundRow, soundAt, aloneAt, soundRows, goodLocks, freshLocks}
 use Rattle.master.specs.Tables.{goodTables}
 use Rattle.master.specs.Refusals.{unknown, misplaced, dtnSet, srcDiffers, placeRefusal, frameTests, frameRefusal, refusal}
 use Rattle.master.specs.Frames.{placeTold, hasFree, nameFound, loginAnswer, loginRecords, answerTo, locksBy, recordsBy, frameTold, frameLocks, frameRecords}
@@ -26,5 +26,5 @@ use Rattle.examples.specs.Play.{played, said, allPlayed, allSaid}
 use Rattle.examples.specs.Marked.{partition, header, empty, one, two, reads, locks, unlocks, logsIn, string, used, fresh, silent, marked}
 
 pub marked-pass : allPlayed marked ≡ allSaid marked
-unfolding all any first sameAt same zeroAt zeros part put copies eachRow lowFirst lowBytes legal key sameString normal frameTable lengthIn frameLength carriesAddress plain addressIn namedIn loginIn stringIn requestIn users userOffset partitions partitionOffset nameAt passwordAt rowAt spareAt goodHeader sameName namedAt nameAlone tracks sectors ranged numbered partitionNumbered numberAlone meet overlap partitionsOverlap sound apart goodPartition goodSite userIs hasUser indexOfNumber inside placeOn refused placedOn placedIn flag bytesOf stationOf goodCounts goodRecord goodNumber goodRecords loggedIn freeNumber lowestNumber loggedInAs afterLogin afterLogout freshRecords owner stringOf isFree rowOf holds freed holdsAt freeAt ownerAt heldAt lowestFree isHeld isOwn lockStatus lockTable freesLock unlockStatus unlockTable clearedTable goodRow goodAt aloneAt goodRows goodLocks freshLocks goodTables unknown misplaced dtnSet srcDiffers placeRefusal frameTests frameRefusal refusal placeTold hasFree nameFound loginAnswer loginRecords answerTo locksBy recordsBy frameTold frameLocks frameRecords isDue missesAfter slowAfter isOut stationAt dueAt outAt pollRefusal turnLocks turnRecords pollTold pollLocks pollRecords played said allPlayed allSaid partition header empty one two reads locks unlocks logsIn string used fresh silent marked
+unfolding all any first sameAt same zeroAt zeros part put copies eachRow lowFirst lowBytes legal key sameString normal frameTable lengthIn frameLength carriesAddress plain addressIn namedIn loginIn stringIn requestIn users userOffset partitions partitionOffset nameAt passwordAt rowAt spareAt goodHeader sameName namedAt nameAlone tracks sectors ranged numbered partitionNumbered numberAlone meet overlap partitionsOverlap sound apart goodPartition goodSite userIs hasUser indexOfNumber inside placeOn refused placedOn placedIn flag bytesOf stationOf goodCounts goodRecord goodNumber goodRecords loggedIn freeNumber lowestNumber loggedInAs afterLogin afterLogout freshRecords owner stringOf isFree rowOf holds freed holdsAt freeAt ownerAt heldAt lowestFree isHeld isOwn lockStatus lockTable freesLock unlockStatus unlockTable clearedTable soundRow soundAt aloneAt soundRows goodLocks freshLocks goodTables unknown misplaced dtnSet srcDiffers placeRefusal frameTests frameRefusal refusal placeTold hasFree nameFound loginAnswer loginRecords answerTo locksBy recordsBy frameTold frameLocks frameRecords isDue missesAfter slowAfter isOut stationAt dueAt outAt pollRefusal turnLocks turnRecords pollTold pollLocks pollRecords played said allPlayed allSaid partition header empty one two reads locks unlocks logsIn string used fresh silent marked
 marked-pass = refl

@@ -17,7 +17,7 @@ use Rattle.who.specs.Good.{goodCounts, goodRecord, goodAt as goodNumber, goodRe
 use Rattle.who.specs.Logins.{loggedIn, freeNumber, lowestFree as lowestNumber, loggedInAs, afterLogin, afterLogout, freshRecords}
 use Rattle.locks.specs.Row.{owner, stringOf, isFree, rowOf, holds, freed}
 use Rattle.locks.specs.Table.{holdsAt, freeAt, ownerAt, heldAt, lowestFree, isHeld, isOwn, lockStatus, lockTable, unlocks, unlockStatus, unlockTable, clearedTable}
-use Rattle.locks.specs.Good.{goodRow, goodAt, aloneAt, goodRows, goodLocks, freshLocks}
+use Rattle.locks.specs.Good.{soundRow, soundAt, aloneAt, soundRows, goodLocks, freshLocks}
 use Rattle.master.specs.Tables.{goodTables}
 use Rattle.master.specs.Refusals.{unknown, misplaced, dtnSet, srcDiffers, placeRefusal, frameTests, frameRefusal, refusal}
 use Rattle.master.specs.Frames.{placeTold, hasFree, nameFound, loginAnswer, loginRecords, answerTo, locksBy, recordsBy, frameTold, frameLocks, frameRecords}
@@ -32,7 +32,7 @@ use Rattle.exchange.specs.Promise.{lists}
 use Rattle.exchange.specs.Story.{A, site, login, buffer, asked, replied, locksA, unlocksA, one-locks, one-holds, one-unlocks, one-free, two-locks, two-denied, two-again, two-holds, from, logins, one-has-it, two-has-it, answersIn, said}
 
 pub story-told : answersIn two-has-it ≡ said
-unfolding all any first sameAt same zeroAt zeros part put copies eachRow lowFirst lowBytes legal key sameString normal frameTable lengthIn frameLength carriesAddress plain addressIn namedIn loginIn stringField requestIn users userOffset partitions partitionOffset nameAt passwordAt rowAt spareAt goodHeader sameName namedAt nameAlone tracks sectors ranged numbered partitionNumbered numberAlone meet overlap partitionsOverlap sound apart goodPartition goodSite userIs hasUser indexOfNumber flag bytesOf stationOf goodCounts goodRecord goodNumber goodRecords loggedIn freeNumber lowestNumber loggedInAs afterLogin afterLogout freshRecords owner stringOf isFree rowOf holds freed holdsAt freeAt ownerAt heldAt lowestFree isHeld isOwn lockStatus lockTable unlocks unlockStatus unlockTable clearedTable goodRow goodAt aloneAt goodRows goodLocks freshLocks goodTables unknown misplaced dtnSet srcDiffers placeRefusal frameTests frameRefusal refusal placeTold hasFree nameFound loginAnswer loginRecords answerTo locksBy recordsBy frameTold frameLocks frameRecords listOf waitOf stringIn unused listedAt isListed placeOf listed added struckAt codeIn askedIn goodPlace goodPlaceAt alonePlace goodList goodWait goodState waits askRefusal struck awaited afterLock afterUnlock freshState frameAwaited sendRefusal sentOf bufferAfter fits grants carriesLength adds replyRefusal afterReply after tables answerIn sent A site login buffer asked replied locksA unlocksA one-locks one-holds one-unlocks one-free two-locks two-denied two-again two-holds from logins one-has-it two-has-it answersIn said
+unfolding all any first sameAt same zeroAt zeros part put copies eachRow lowFirst lowBytes legal key sameString normal frameTable lengthIn frameLength carriesAddress plain addressIn namedIn loginIn stringField requestIn users userOffset partitions partitionOffset nameAt passwordAt rowAt spareAt goodHeader sameName namedAt nameAlone tracks sectors ranged numbered partitionNumbered numberAlone meet overlap partitionsOverlap sound apart goodPartition goodSite userIs hasUser indexOfNumber flag bytesOf stationOf goodCounts goodRecord goodNumber goodRecords loggedIn freeNumber lowestNumber loggedInAs afterLogin afterLogout freshRecords owner stringOf isFree rowOf holds freed holdsAt freeAt ownerAt heldAt lowestFree isHeld isOwn lockStatus lockTable unlocks unlockStatus unlockTable clearedTable soundRow soundAt aloneAt soundRows goodLocks freshLocks goodTables unknown misplaced dtnSet srcDiffers placeRefusal frameTests frameRefusal refusal placeTold hasFree nameFound loginAnswer loginRecords answerTo locksBy recordsBy frameTold frameLocks frameRecords listOf waitOf stringIn unused listedAt isListed placeOf listed added struckAt codeIn askedIn goodPlace goodPlaceAt alonePlace goodList goodWait goodState waits askRefusal struck awaited afterLock afterUnlock freshState frameAwaited sendRefusal sentOf bufferAfter fits grants carriesLength adds replyRefusal afterReply after tables answerIn sent A site login buffer asked replied locksA unlocksA one-locks one-holds one-unlocks one-free two-locks two-denied two-again two-holds from logins one-has-it two-has-it answersIn said
 story-told = refl
 
 -- who lists "A" on the way: 1 after the reply 81, 2 not after 01, 1 no more after its unlock, and then 2
@@ -42,5 +42,5 @@ story-lists = refl
 
 -- station 2 has missed no poll so far
 pub two-counts : (stationAt (tables two-has-it .records) 2 .misses ≡ 0) × (stationAt (tables two-has-it .records) 2 .slow ≡ 0)
-unfolding all any first sameAt same zeroAt zeros part put copies eachRow lowFirst lowBytes legal key sameString normal frameTable lengthIn frameLength carriesAddress plain addressIn namedIn loginIn stringField requestIn users userOffset partitions partitionOffset nameAt passwordAt rowAt spareAt goodHeader sameName namedAt nameAlone tracks sectors ranged numbered partitionNumbered numberAlone meet overlap partitionsOverlap sound apart goodPartition goodSite userIs hasUser indexOfNumber flag bytesOf stationOf goodCounts goodRecord goodNumber goodRecords loggedIn freeNumber lowestNumber loggedInAs afterLogin afterLogout freshRecords owner stringOf isFree rowOf holds freed holdsAt freeAt ownerAt heldAt lowestFree isHeld isOwn lockStatus lockTable unlocks unlockStatus unlockTable clearedTable goodRow goodAt aloneAt goodRows goodLocks freshLocks goodTables unknown misplaced dtnSet srcDiffers placeRefusal frameTests frameRefusal refusal placeTold hasFree nameFound loginAnswer loginRecords answerTo locksBy recordsBy frameTold frameLocks frameRecords listOf waitOf stringIn unused listedAt isListed placeOf listed added struckAt codeIn askedIn goodPlace goodPlaceAt alonePlace goodList goodWait goodState waits askRefusal struck awaited afterLock afterUnlock freshState frameAwaited sendRefusal sentOf bufferAfter fits grants carriesLength adds replyRefusal afterReply after tables sent A site login buffer asked replied locksA unlocksA one-locks one-holds one-unlocks one-free two-locks two-denied two-again two-holds from logins one-has-it two-has-it stationAt
+unfolding all any first sameAt same zeroAt zeros part put copies eachRow lowFirst lowBytes legal key sameString normal frameTable lengthIn frameLength carriesAddress plain addressIn namedIn loginIn stringField requestIn users userOffset partitions partitionOffset nameAt passwordAt rowAt spareAt goodHeader sameName namedAt nameAlone tracks sectors ranged numbered partitionNumbered numberAlone meet overlap partitionsOverlap sound apart goodPartition goodSite userIs hasUser indexOfNumber flag bytesOf stationOf goodCounts goodRecord goodNumber goodRecords loggedIn freeNumber lowestNumber loggedInAs afterLogin afterLogout freshRecords owner stringOf isFree rowOf holds freed holdsAt freeAt ownerAt heldAt lowestFree isHeld isOwn lockStatus lockTable unlocks unlockStatus unlockTable clearedTable soundRow soundAt aloneAt soundRows goodLocks freshLocks goodTables unknown misplaced dtnSet srcDiffers placeRefusal frameTests frameRefusal refusal placeTold hasFree nameFound loginAnswer loginRecords answerTo locksBy recordsBy frameTold frameLocks frameRecords listOf waitOf stringIn unused listedAt isListed placeOf listed added struckAt codeIn askedIn goodPlace goodPlaceAt alonePlace goodList goodWait goodState waits askRefusal struck awaited afterLock afterUnlock freshState frameAwaited sendRefusal sentOf bufferAfter fits grants carriesLength adds replyRefusal afterReply after tables sent A site login buffer asked replied locksA unlocksA one-locks one-holds one-unlocks one-free two-locks two-denied two-again two-holds from logins one-has-it two-has-it stationAt
 two-counts = (refl, refl)

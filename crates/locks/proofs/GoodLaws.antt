@@ -1,8 +1,8 @@
 -- The rules of the lock table as facts.
 use Prim.Native.Nat.{ℕ, _*_, _<_}
 use native.Mathlib.Omega.{arith}
-use mathlib.Core.Path.{_≡_, sym}
-use mathlib.Core.Bool.{true, false, _&&_}
+use mathlib.Core.Path.{_≡_, sym, ap}
+use mathlib.Core.Bool.{Bool, true, false, _&&_}
 use mathlib.Core.List.{List}
 use lib.Dec.{eqb, ltb}
 use lib.ListN.{length}
@@ -15,7 +15,7 @@ use Rattle.terms.specs.declared.LockString.{LockString}
 use Rattle.terms.proofs.StringLaws.{same-string-refl, same-string-sym, same-string-trans}
 use Rattle.locks.specs.Row.{stringOf, isFree, holds}
 use Rattle.locks.specs.Table.{rowCount, holdsAt, freeAt}
-use Rattle.locks.specs.Good.{goodRow, goodAt, aloneAt, goodRows}
+use Rattle.locks.specs.Good.{soundAt, soundRows, goodRow, goodAt, aloneAt, goodRows}
 use Rattle.locks.proofs.LockRowLaws.{holds-is, is-holds}
 
 -- a table of n rows has n rows
@@ -57,7 +57,7 @@ module _ (n : ℕ) (t : List ℕ) where
 
 module _ (n : ℕ) (w t : List ℕ) where
   pub good-is : goodRows n w t ≡ true → Good n w t
-  unfolding goodRows goodAt
+  unfolding soundRows soundAt
   good-is h =
       let z = eqb (length t) (16 * n) in
       let e = all (goodAt w t) n in
@@ -69,5 +69,9 @@ module _ (n : ℕ) (w t : List ℕ) where
       }
 
   pub is-good : Good n w t → goodRows n w t ≡ true
-  unfolding goodRows goodAt
+  unfolding soundRows soundAt
   is-good g = rw (eq-eqb _ _ (g .sized), all-from (goodAt w t) n (g .each), one-alone n t (g .one-row))
+
+-- the rules ask nothing of the records but who is logged in
+pub sound-same : (n : ℕ) (t : List ℕ) (f g : ℕ → Bool) → ((a : ℕ) → f a ≡ g a) → soundRows n f t ≡ soundRows n g t
+sound-same n t f g same = ap (λ (h : ℕ → Bool). soundRows n h t) (λ i a. same a i)

@@ -18,7 +18,7 @@ use Rattle.terms.specs.Strings.{legal, key, sameString, normal}
 use Rattle.terms.proofs.StringLaws.{legal-len, legal-same, normal-is-same, length-key, length-normal, same-string-normal, same-string-right}
 use Rattle.who.specs.Logins.{loggedIn}
 use Rattle.locks.specs.Row.{owner, stringOf, freeRow, isFree, rowOf, holds, freed}
-use Rattle.locks.specs.Good.{goodRow}
+use Rattle.locks.specs.Good.{soundRow, goodRow}
 
 -- a row made of its owner, its length and its string over sixteen zeros
 pub row-laid : (who len : ℕ) (b : List ℕ) → length b ≡ 13 → over (who ∷ len ∷ b) (replicate 16 0) ≡ who ∷ len ∷ (b ++ (0 ∷ []))
@@ -101,7 +101,7 @@ pub record GoodUsed (w r : List ℕ) : Type 0 where
 
 module _ (w r : List ℕ) where
   pub good-used : goodRow w r ≡ true → isFree r ≡ false → GoodUsed w r
-  unfolding goodRow
+  unfolding soundRow
   good-used h u =
       let l = legal (stringOf r) in
       let z = zeros (part r (2 + stringOf r .len) (14 - stringOf r .len)) in
@@ -112,19 +112,19 @@ module _ (w r : List ℕ) where
       }
 
   pub used-good : isFree r ≡ false → GoodUsed w r → goodRow w r ≡ true
-  unfolding goodRow
+  unfolding soundRow
   used-good u g = rw (u, g .inside, g .lawful) (g .rest)
 
   -- a good row stays good beside other records that have its owner
   pub good-beside : (w′ : List ℕ) → goodRow w r ≡ true → (isFree r ≡ false → loggedIn w′ (owner r) ≡ true) → goodRow w′ r ≡ true
-  unfolding goodRow
+  unfolding soundRow
   good-beside w′ h inside = by-test (isFree r)
       (λ f. rw f (rw f at h))
       (λ u. rw (u, inside u) (and-right (loggedIn w (owner r)) _ (rw u at h)))
 
 -- the free row is good
 pub free-good : (w : List ℕ) → goodRow w freeRow ≡ true
-unfolding goodRow isFree owner zeros zeroAt all part
+unfolding soundRow isFree owner zeros zeroAt all part
 free-good w = refl
 
 -- zeros follow the string of the row that a lock fills

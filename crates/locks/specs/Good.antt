@@ -1,4 +1,4 @@
--- The rules of the lock table, beside the station records w.
+-- The rules of the lock table. `inside` says who is logged in.
 use Prim.Native.Nat.{ℕ, _+_, _-_, _*_}
 use mathlib.Core.Bool.{Bool, cond, not, _&&_, _||_}
 use mathlib.Core.List.{List}
@@ -12,23 +12,33 @@ use Rattle.locks.specs.Row.{owner, stringOf, freeRow, isFree}
 use Rattle.locks.specs.Table.{holdsAt, freeAt}
 
 -- a free row has owner FF and zeros; a used row has length 1 to 13, zeros after the string and in the spare byte, and an owner who is logged in
-unfoldable pub goodRow : List ℕ → List ℕ → Bool
-goodRow w r =
+unfoldable pub soundRow : (ℕ → Bool) → List ℕ → Bool
+soundRow inside r =
     cond (isFree r) (zeros (part r 1 15))
-    (loggedIn w (owner r)
+    (inside (owner r)
     && (legal (stringOf r)
     && zeros (part r (2 + stringOf r .len) (14 - stringOf r .len))))
 
-unfoldable pub goodAt : List ℕ → List ℕ → ℕ → Bool
-goodAt w t i = goodRow w (row 16 t i)
+unfoldable pub soundAt : (ℕ → Bool) → List ℕ → ℕ → Bool
+soundAt inside t i = soundRow inside (row 16 t i)
 
 -- no two used rows hold the same string: no earlier one holds this one's
 unfoldable pub aloneAt : List ℕ → ℕ → Bool
 aloneAt t i = freeAt t i || not (any (holdsAt t (stringOf (row 16 t i))) i)
 
 -- a table of n rows
-unfoldable pub goodRows : ℕ → List ℕ → List ℕ → Bool
-goodRows n w t = eqb (length t) (16 * n) && (all (goodAt w t) n && all (aloneAt t) n)
+unfoldable pub soundRows : ℕ → (ℕ → Bool) → List ℕ → Bool
+soundRows n inside t = eqb (length t) (16 * n) && (all (soundAt inside t) n && all (aloneAt t) n)
+
+-- the same beside station records w, which say who is logged in
+abbrev pub goodRow : List ℕ → List ℕ → Bool
+goodRow w r = soundRow (loggedIn w) r
+
+abbrev pub goodAt : List ℕ → List ℕ → ℕ → Bool
+goodAt w t i = soundAt (loggedIn w) t i
+
+abbrev pub goodRows : ℕ → List ℕ → List ℕ → Bool
+goodRows n w t = soundRows n (loggedIn w) t
 
 -- how many locks a master has
 abbrev pub locks : ℕ

@@ -1,4 +1,4 @@
-use Rattle.locks.specs.Good.{goodRow, goodAt}
+use Rattle.locks.specs.Good.{soundAt, goodRow, goodAt}
 use Rattle.rows.proofs.IndexLaws.{Passing, pass-starts, pass-on, pass-breaks, pass-ends}
 use Rattle.rows.proofs.RowLaws.{length-part}
 use borrow.Author.Tests.{not-true, not-false}
@@ -29,7 +29,7 @@ row-good-requires : tie.Need-row-good-requires Inv-loop μ-loop
 row-good-requires c κs = ap length (c .part .ensures) ∙ length-part (now (c .before .before .before .before .before .args .table)) (16 * c .before .before .loop .i) 16 (omega arith)
 
 returns : tie.Need-returns Inv-loop μ-loop
-unfolding goodAt
+unfolding soundAt
 returns c = pass-breaks _ _ (c .before .before .before .loop-test .taken) (ap (goodRow (now (c .before .before .before .before .before .before .before .args .records))) (sym (c .before .before .part .ensures)) ∙ sym (c .before .row-good .ensures) ∙ not-true _ (c .if1 .taken))
 
 add-i : tie.Need-add-i Inv-loop μ-loop
@@ -39,7 +39,7 @@ loop-less : tie.Need-loop-less Inv-loop μ-loop
 loop-less c = omega arith
 
 loop-again : tie.Need-loop-again Inv-loop μ-loop
-unfolding goodAt
+unfolding soundAt
 loop-again c = pass-on _ _ (c .before .before .before .before .loop .inv) (c .before .before .before .loop-test .taken) (ap (goodRow (now (c .before .before .before .before .before .before .before .args .records))) (sym (c .before .before .part .ensures)) ∙ sym (c .before .row-good .ensures) ∙ not-false _ (c .if1 .left))
 
 returns-2 : tie.Need-returns-2 Inv-loop μ-loop
