@@ -1,3 +1,4 @@
 pub mod RecordLaws
 pub mod WhoLaws
 pub mod TurnLaws
+pub mod RowLaws

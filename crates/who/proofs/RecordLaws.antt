@@ -86,7 +86,7 @@ unfolding goodRecord goodCounts lowFirst part zeros zeroAt all
 local-good = refl
 
 -- a flag is 0 or 1, reads back, and is written again as it was read
-flag-small : (b : Bool) → flag b ≤ 1
+pub flag-small : (b : Bool) → flag b ≤ 1
 unfolding flag
 flag-small true = lit≤ tt
 flag-small false = lit≤ tt
@@ -188,25 +188,17 @@ pub login-record-good : (name serial : List ℕ) (product : ℕ) (found : Bool) 
 unfolding loggedInAs goodCounts
 login-record-good name serial product found n s = bytesOf-good (loggedInAs name serial product found) n s refl refl
 
--- a good record is written again as it was read
-module _ (r : List ℕ) (full : length r ≡ 18) (bytes : (i : ℕ) → getD r i 0 < 256) where
-  misses-again : lowBytes 2 (lowFirst (part r 1 2)) ≡ part r 1 2
-  misses-again = part-back r 1 2 bytes (omega arith)
-
+-- a record by its fields
+module _ (r : List ℕ) (full : length r ≡ 18) where
   back-again : getD r 16 0 ∷ getD r 17 0 ∷ [] ≡ drop 16 r
   back-again =
       sym (two-bytes r 16 (omega arith))
       ∙ sym (append-nil (part r 16 2))
       ∙ rw (← drop-of-length-le r {i = 18} (omega arith)) (part-rest r 16 2)
 
-  pub bytes-again : goodRecord r ≡ true → bytesOf (stationOf r) ≡ r
-  unfolding bytesOf stationOf
-  bytes-again good =
-      let k = sound-is r good in
+  pub laid : getD r 0 0 ∷ (part r 1 2 ++ (getD r 3 0 ∷ (part r 4 8 ++ (part r 12 4 ++ (getD r 16 0 ∷ getD r 17 0 ∷ []))))) ≡ r
+  laid =
       rw (
-        flag-again (getD r 0 0) (k .logged),
-        flag-again (getD r 17 0) (k .found),
-        misses-again,
         back-again,
         part-rest r 12 4,
         part-rest r 4 8,
@@ -214,3 +206,9 @@ module _ (r : List ℕ) (full : length r ≡ 18) (bytes : (i : ℕ) → getD r i
         part-rest r 1 2,
       )
       (sym (drop-cons r 0 0 (omega arith)))
+
+  -- it is written again as it was read, where its flags are 0 or 1
+  pub bytes-again : ((i : ℕ) → getD r i 0 < 256) → getD r 0 0 ≤ 1 → getD r 17 0 ≤ 1 → bytesOf (stationOf r) ≡ r
+  unfolding bytesOf stationOf
+  bytes-again bytes logged found =
+      rw (flag-again (getD r 0 0) logged, flag-again (getD r 17 0) found, part-back r 1 2 bytes (omega arith)) laid

@@ -1,5 +1,7 @@
 // The login table: one record of 18 lent bytes for each user number. Who is logged in, the lowest free number, login and
 // logout, and the check of the records.
+pub mod lent;
+
 ghost use mathlib.Core.Path.{_≡_};
 ghost use Prim.Native.Nat.{_+_, _*_, _≤_};
 ghost use lib.ListN.{length};
@@ -31,6 +33,12 @@ pub struct Station {
     pub serial: [u8; 4],
     pub product: u8,
     pub found: bool,
+}
+
+// Who of a row of records is logged in, as a word with bit n for number n. A row that breaks the rules has no good roll.
+pub struct Roll {
+    pub good: bool,
+    pub word: u64,
 }
 
 fn flag_of(b: bool) -> u8

@@ -1,0 +1,169 @@
+// The records as one row of 64 stations, as the poll turn is lent them: the check, which also says who is logged in, and
+// the way from the bytes to such a row.
+use crate::NUMBERS;
+use crate::RECORD;
+use crate::Roll;
+use crate::Station;
+ghost use mathlib.Core.Path.{_≡_};
+ghost use mathlib.Core.Bool.{true};
+ghost use Prim.Native.Nat.{_*_, _<_};
+ghost use lib.ListN.{length};
+ghost use Rattle.rows.specs.Words.{all};
+ghost use Rattle.rows.specs.Outcomes.{Gives};
+ghost use Rattle.who.specs.Good.{numbers};
+ghost use Rattle.who.specs.Row.{vacant as vacantOf, plain, goodStation, rollOf, noted, bareRecords, stationsOf, flagged, isRow};
+
+// A record that is zero and no throughout.
+pub fn vacant() -> Station
+    ensures { λ s. ⌜ Gives vacantOf s ⌝ }
+{
+    Station {
+        logged: false,
+        misses: 0,
+        slow: 0,
+        name: [0; 8],
+        serial: [0; 4],
+        product: 0,
+        found: false,
+    }
+}
+
+// All but `logged in` is zero or no.
+fn is_plain(s: Station) -> bool
+    ensures { λ r. ⌜ r ≡ plain s ⌝ }
+{
+    if s.misses != 0 {
+        return false;
+    }
+    if s.slow != 0 {
+        return false;
+    }
+    let name = s.name;
+    if !rows::is_zero(&name) {
+        return false;
+    }
+    let serial = s.serial;
+    if !rows::is_zero(&serial) {
+        return false;
+    }
+    if s.product != 0 {
+        return false;
+    }
+    !s.found
+}
+
+// The record of number n keeps the rules.
+fn is_good(n: usize, s: Station) -> bool
+    ensures { λ r. ⌜ r ≡ goodStation n s ⌝ }
+{
+    if !crate::counts_good(s.misses, s.slow) {
+        return false;
+    }
+    if n == 0 {
+        return if s.logged { is_plain(s) } else { false };
+    }
+    if s.logged { true } else { is_plain(s) }
+}
+
+// The roll with record n before those that it has.
+fn note(n: usize, s: Station, rest: Roll) -> Roll
+    requires { ⌜ rest .word < 9223372036854775808 ⌝ }
+    ensures { λ r. ⌜ r ≡ noted n s rest ⌝ }
+{
+    if !rest.good {
+        return Roll {
+            good: false,
+            word: 0,
+        };
+    }
+    if !is_good(n, s) {
+        return Roll {
+            good: false,
+            word: 0,
+        };
+    }
+    if s.logged {
+        return Roll {
+            good: true,
+            word: 1 + 2 * rest.word,
+        };
+    }
+    Roll {
+        good: true,
+        word: 2 * rest.word,
+    }
+}
+
+// The roll of the lent row. It is called from the last record on, so that number n ends up as bit n.
+pub fn roll_call(row: &[Station]) -> Roll
+    ensures { λ r. ⌜ Gives (rollOf (now (row .entry))) r ⌝ }
+{
+    let mut n = row.len();
+    let mut roll = Roll {
+        good: n == NUMBERS,
+        word: 0,
+    };
+    while 0 < n {
+        n = n - 1;
+        roll = note(n, row[n], roll);
+    }
+    roll
+}
+
+// Bytes of records that say who is logged in and nothing else: all that the lock table's check asks of them.
+pub fn bare_records(word: u64) -> [u8; 1152]
+    ensures { λ r. ⌜ Gives (bareRecords word) r ⌝ }
+{
+    let mut bytes = [0u8; 1152];
+    let mut rest = word;
+    let mut n: usize = 0;
+    while n < NUMBERS {
+        bytes[RECORD * n] = (rest % 2) as u8;
+        rest = rest / 2;
+        n += 1;
+    }
+    bytes
+}
+
+// The flags of record n are 0 or 1.
+fn is_flagged(records: &[u8], n: usize) -> bool
+    requires { ⌜ (length (now records) ≡ 18 * numbers) × (n < numbers) ⌝ }
+    ensures { λ r. ⌜ r ≡ flagged (now (records .entry)) n ⌝ }
+{
+    let at = RECORD * n;
+    if 1 < records[at] {
+        return false;
+    }
+    records[at + 17] <= 1
+}
+
+// A row stands in these bytes: 64 records with flags 0 or 1.
+pub fn is_row(records: &[u8]) -> bool
+    ensures { λ r. ⌜ Gives (isRow (now (records .entry))) r ⌝ }
+{
+    if records.len() != crate::BYTES {
+        return false;
+    }
+    let mut n: usize = 0;
+    while n < NUMBERS {
+        if !is_flagged(records, n) {
+            return false;
+        }
+        n += 1;
+    }
+    true
+}
+
+// The row that stands in the bytes.
+pub fn row_of(records: &[u8]) -> [Station; 64]
+    requires { ⌜ length (now records) ≡ 18 * numbers ⌝ }
+    ensures { λ r. ⌜ r ≡ stationsOf (now (records .entry)) ⌝ }
+{
+    let mut row = [vacant(); 64];
+    let mut n: usize = 0;
+    while n < NUMBERS {
+        row[n] = crate::station_at(records, n);
+        n += 1;
+    }
+    row
+}
