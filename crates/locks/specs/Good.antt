@@ -4,7 +4,7 @@ use mathlib.Core.Bool.{Bool, cond, not, _&&_, _||_}
 use mathlib.Core.List.{List}
 use lib.Dec.{eqb}
 use lib.ListN.{length}
-use Rattle.rows.specs.Words.{all, any, same, zeros}
+use Rattle.rows.specs.Words.{all, any, zeros}
 use Rattle.rows.specs.Rows.{part, row, copies}
 use Rattle.terms.specs.Strings.{legal}
 use Rattle.who.specs.Logins.{loggedIn}

@@ -5,3 +5,6 @@ pub mod Deeds
 pub mod Keeps
 pub mod PollLaws
 pub mod PollKeeps
+pub mod RowPollLaws
+pub mod Lent
+pub mod RowTies

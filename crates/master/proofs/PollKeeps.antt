@@ -41,7 +41,7 @@ module _ (n : ℕ) (heard : Bool) (t w : List ℕ) where
         → TurnDeed (answers (flag (dueAt w n) ∷ flag true ∷ [])) (clearedTable t n) (afterLogout w n)
 
   -- a turn that is not refused is that of a station 1 to 63 that is logged in
-  seated : pollRefusal n heard t w ≡ 0 → (loggedIn w n ≡ true) × (n ≡ 0 → ⊥)
+  pub seated : pollRefusal n heard t w ≡ 0 → (loggedIn w n ≡ true) × (n ≡ 0 → ⊥)
   unfolding pollRefusal
   seated z = by-test (goodTables t w)
       (λ y. by-eq (seatRefusal n heard t w) 0

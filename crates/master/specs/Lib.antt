@@ -4,3 +4,4 @@ pub mod Refusals
 pub mod Frames
 pub mod Fresh
 pub mod Polls
+pub mod RowPolls

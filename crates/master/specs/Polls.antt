@@ -74,12 +74,6 @@ pollLocks n heard t w = cond (eqb (pollRefusal n heard t w) 0) (turnLocks n hear
 unfoldable pub pollRecords : ℕ → Bool → List ℕ → List ℕ → List ℕ
 pollRecords n heard t w = cond (eqb (pollRefusal n heard t w) 0) (turnRecords n heard w) w
 
--- the turn of a station that is logged in: 12, or the turn
-pub record Turns (n : ℕ) (heard : Bool) (t w : List ℕ) (r : Turned) (t′ w′ : List ℕ) : Type 0 where
-  pub answer : turnTold r ≡ cond (heard && not (dueAt w n)) (refuses 12) (answers (flag (dueAt w n) ∷ flag (outAt w n heard) ∷ []))
-  pub locks : t′ ≡ cond (heard && not (dueAt w n)) t (turnLocks n heard t w)
-  pub records : w′ ≡ cond (heard && not (dueAt w n)) w (turnRecords n heard w)
-
 -- what a poll turn gives and leaves, whole
 pub record Polls (n : ℕ) (heard : Bool) (t w : List ℕ) (r : Turned) (t′ w′ : List ℕ) : Type 0 where
   pub answer : turnTold r ≡ pollTold n heard t w

@@ -7,6 +7,7 @@ mod refusals;
 use terms::Partition;
 use terms::Place;
 use terms::Volume;
+use who::Station;
 ghost use mathlib.Core.Path.{_≡_};
 ghost use mathlib.Core.Bool.{true};
 ghost use Rattle.rows.specs.Outcomes.{Gives};
@@ -15,6 +16,7 @@ ghost use Rattle.master.specs.Tables.{goodTables};
 ghost use Rattle.master.specs.Frames.{Serves};
 ghost use Rattle.master.specs.Fresh.{Freshens};
 ghost use Rattle.master.specs.Polls.{Polls};
+ghost use Rattle.master.specs.RowPolls.{RowPolls};
 
 pub enum Answer {
     Refused(u8),
@@ -38,6 +40,18 @@ pub enum Answer {
 pub enum Turned {
     Refused(u8),
     Turn { due: bool, out: bool },
+}
+
+// What one record becomes in a poll turn, and the answer to it.
+pub struct Polled {
+    pub next: Station,
+    pub answer: Turned,
+}
+
+// The row after a poll turn, and the answer to it.
+pub struct PolledRow {
+    pub row: [Station; 64],
+    pub answer: Turned,
 }
 
 // Fills fresh tables: 64 free rows and only user 0. 11 for another size.
@@ -93,12 +107,28 @@ pub fn serve(number: u32, frame: &[u8], site: &[u8], locks: &mut [u8], records: 
     act(number, frame, site, locks, records)
 }
 
-// One poll turn of the number, heard or not: 11, 2, 5, 12, or the turn.
+// One poll turn of the number, heard or not, over the records lent as one row: 11, 2, 5, 12, or the turn.
+pub fn poll_row(row: &mut [Station], locks: &mut [u8], number: u32, heard: bool) -> Turned
+    ensures { λ r. ⌜ RowPolls number heard (now (row .entry)) (now (locks .entry)) r (now (row .exit)) (now (locks .exit)) ⌝ }
+{
+    let roll = who::lent::roll_call(row);
+    if !roll.good {
+        return Turned::Refused(11);
+    }
+    let at = poll::slot_of(number);
+    let polled = poll::poll_one(row[at], roll, number, heard, locks);
+    row[at] = polled.next;
+    polled.answer
+}
+
+// The same over the records in bytes: they are read into a row, and the record polled is written back.
 pub fn poll_turn(number: u32, heard: bool, locks: &mut [u8], records: &mut [u8]) -> Turned
     ensures { λ r. ⌜ Polls number heard (now (locks .entry)) (now (records .entry)) r (now (locks .exit)) (now (records .exit)) ⌝ }
 {
-    if !tables_good(locks, records) {
+    if !who::lent::is_row(records) {
         return Turned::Refused(11);
     }
-    poll::step(number, heard, locks, records)
+    let row = who::lent::row_of(records);
+    let polled = poll::poll_rows(row, locks, number, heard);
+    poll::write_back(number, polled, records)
 }

@@ -1,15 +1,21 @@
-// One poll turn over good tables: the refusals that the number gives, and the turn of a station that is logged in.
+// One poll turn: the refusals that the tables and the number give, the turn of one record by value, and the row that is
+// lent for it.
+use crate::Polled;
+use crate::PolledRow;
 use crate::Turned;
-use crate::commands;
 use crate::refusals;
+use who::Roll;
 use who::Station;
 ghost use mathlib.Core.Path.{_≡_};
 ghost use mathlib.Core.Bool.{true, cond, not, _&&_, _||_};
-ghost use lib.Dec.{eqb};
-ghost use Rattle.who.specs.Logins.{loggedIn};
-ghost use Rattle.master.specs.Tables.{goodTables};
+ghost use Prim.Native.Nat.{_*_, _<_};
+ghost use lib.Dec.{eqb, ltb};
+ghost use lib.ListN.{length};
+ghost use Rattle.who.specs.Good.{goodCounts, numbers};
 ghost use Rattle.master.specs.Refusals.{ANYBODY, unknown};
-ghost use Rattle.master.specs.Polls.{withCounts, Polls, Turns};
+ghost use Rattle.master.specs.Polls.{withCounts};
+ghost use Rattle.master.specs.RowPolls.{early, rollRefusal, stepRefusal, Steps, RowPolls, isTurn, writtenBack};
+ghost use Rattle.rows.specs.Outcomes.{Leaves};
 
 // 2 or 5, or 0.
 fn seat_refusal(number: u32, records: &[u8]) -> u8
@@ -34,31 +40,6 @@ fn after_turn(s: Station, turn: who::Turn) -> Station
     next
 }
 
-// The turn of a station that is logged in: 12, or the turn.
-fn turn(number: u8, heard: bool, locks: &mut [u8], records: &mut [u8]) -> Turned
-    requires { ⌜ (goodTables (now locks) (now records) ≡ true) × (loggedIn (now records) number ≡ true) ⌝ }
-    ensures { λ r. ⌜ Turns number heard (now (locks .entry)) (now (records .entry)) r (now (locks .exit)) (now (records .exit)) ⌝ }
-{
-    let n = number as usize;
-    let station = who::station_at(records, n);
-    let turn = who::turn_of(station.misses, station.slow, heard);
-    if is_early(heard, turn.due) {
-        return Turned::Refused(12);
-    }
-    if turn.out {
-        commands::log_out(number, locks, records);
-        return Turned::Turn {
-            due: turn.due,
-            out: true,
-        };
-    }
-    who::put_station(records, n, after_turn(station, turn));
-    Turned::Turn {
-        due: turn.due,
-        out: false,
-    }
-}
-
 // Heard in a turn that was not due.
 fn is_early(heard: bool, due: bool) -> bool
     ensures { λ r. ⌜ r ≡ heard && not due ⌝ }
@@ -69,14 +50,95 @@ fn is_early(heard: bool, due: bool) -> bool
     false
 }
 
-// One poll turn of the number, over good tables: 2, 5, 12, or the turn.
-pub fn step(number: u32, heard: bool, locks: &mut [u8], records: &mut [u8]) -> Turned
-    requires { ⌜ goodTables (now locks) (now records) ≡ true ⌝ }
-    ensures { λ r. ⌜ Polls number heard (now (locks .entry)) (now (records .entry)) r (now (locks .exit)) (now (records .exit)) ⌝ }
+// 11, 2 or 5, or 0.
+fn roll_refusal(roll: Roll, number: u32, locks: &[u8]) -> u8
+    ensures { λ r. ⌜ r ≡ rollRefusal roll number (now (locks .entry)) ⌝ }
 {
-    let refusal = seat_refusal(number, records);
-    if refusal != 0 {
-        return Turned::Refused(refusal);
+    if !roll.good {
+        return 11;
     }
-    turn(number as u8, heard, locks, records)
+    let bare = who::lent::bare_records(roll.word);
+    if !locks::is_good(locks, &bare) {
+        return 11;
+    }
+    seat_refusal(number, &bare)
+}
+
+// The turn of a record that is logged in: 12, or the turn. A station that is out loses its locks and its record.
+fn turn_one(s: Station, number: u8, heard: bool, locks: &mut [u8]) -> Polled
+    requires { ⌜ goodCounts (s .misses) (s .slow) ≡ true ⌝ }
+    ensures { λ r. ⌜ Steps (early s heard) number s heard (now (locks .entry)) r (now (locks .exit)) ⌝ }
+{
+    let turn = who::turn_of(s.misses, s.slow, heard);
+    if is_early(heard, turn.due) {
+        return Polled {
+            next: s,
+            answer: Turned::Refused(12),
+        };
+    }
+    if turn.out {
+        locks::free_all(locks, number);
+        return Polled {
+            next: who::lent::vacant(),
+            answer: Turned::Turn {
+                due: turn.due,
+                out: true,
+            },
+        };
+    }
+    Polled {
+        next: after_turn(s, turn),
+        answer: Turned::Turn {
+            due: turn.due,
+            out: false,
+        },
+    }
+}
+
+// The record that a turn of the number reads: its own, or the first where it has none.
+pub fn slot_of(number: u32) -> usize
+    ensures { λ r. ⌜ r ≡ cond (ltb number numbers) number 0 ⌝ }
+{
+    if number < 64 { number as usize } else { 0 }
+}
+
+// The turn of one record of a row with this roll: 11, 2, 5, 12, or the turn.
+pub fn poll_one(s: Station, roll: Roll, number: u32, heard: bool, locks: &mut [u8]) -> Polled
+    requires { ⌜ goodCounts (s .misses) (s .slow) ≡ true ⌝ }
+    ensures { λ r. ⌜ Steps (stepRefusal roll number s heard (now (locks .entry))) number s heard (now (locks .entry)) r (now (locks .exit)) ⌝ }
+{
+    let refusal = roll_refusal(roll, number, locks);
+    if refusal != 0 {
+        return Polled {
+            next: s,
+            answer: Turned::Refused(refusal),
+        };
+    }
+    turn_one(s, number as u8, heard, locks)
+}
+
+// The row by value, lent for a turn and handed back: its own parameters are plain, so whoever calls it needs no walk.
+pub fn poll_rows(row: [Station; 64], locks: &mut [u8], number: u32, heard: bool) -> PolledRow
+    ensures { λ r. ⌜ RowPolls number heard row (now (locks .entry)) (r .answer) (r .row) (now (locks .exit)) ⌝ }
+{
+    let mut lent = row;
+    let answer = crate::poll_row(&mut lent, locks, number, heard);
+    PolledRow { row: lent, answer }
+}
+
+// Writes the record polled back into the bytes that the row was read from, where the turn was not refused.
+pub fn write_back(number: u32, polled: PolledRow, records: &mut [u8]) -> Turned
+    requires { ⌜ (length (now records) ≡ 18 * numbers) × (isTurn (polled .answer) ≡ true → number < numbers) ⌝ }
+    ensures { λ r. ⌜ Leaves (polled .answer) (writtenBack number polled (now (records .entry))) r (now (records .exit)) ⌝ }
+{
+    let answer = polled.answer;
+    match answer {
+        Turned::Refused(k) => Turned::Refused(k),
+        Turned::Turn { due, out } => {
+            let at = number as usize;
+            let row = polled.row;
+            who::put_station(records, at, row[at]);
+            Turned::Turn { due, out }
+        }
+    }
 }

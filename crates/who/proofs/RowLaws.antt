@@ -1,12 +1,12 @@
 -- The laws of a row of records: its roll, what a good row says of each record, and who is logged in by the bare records.
-use Prim.Native.Nat.{ℕ, zero, suc, _+_, _*_, _/_, _%_, _^_, _≤_, _<_}
+use Prim.Native.Nat.{ℕ, zero, suc, _+_, _*_, _^_, _≤_, _<_}
 use native.Mathlib.Nat.{add-zero, pow-suc, not-suc-le-zero, le-of-suc-le-suc}
 use native.Mathlib.Omega.{arith}
 use mathlib.Core.Path.{_≡_, refl, sym, ap, subst, _∙_}
 use mathlib.Core.Bool.{Bool, true, false, cond, not, _&&_, _||_, and-true}
 use mathlib.Core.List.{List, [], _∷_}
 use lib.Dec.{eqb, leb, ltb, lit<}
-use lib.ListN.{length, drop, getD, set, replicate, length-set, length-replicate, length-drop, drop-of-length-le, List·getD-eq-default}
+use lib.ListN.{length, drop, getD, replicate, length-set, length-replicate, length-drop, drop-of-length-le, List·getD-eq-default}
 use lib.Pow.{pow-mono}
 use lib.Seq.{drop-cons, drop-length, getD-set-same, getD-set-other}
 use borrow.Author.Tests.{eqb-true, eqb-false, eq-eqb, ne-eqb, leb-true, le-leb, ltb-true, ltb-false, not-true}
@@ -22,8 +22,8 @@ use Rattle.rows.specs.Rows.{part, row}
 use Rattle.rows.specs.Numbers.{lowFirst}
 use Rattle.who.specs.Records.{flag, stationOf, localUser}
 use Rattle.who.specs.Good.{goodCounts, goodRecord, numbers, goodRecords}
-use Rattle.who.specs.Logins.{recordCount, loggedIn}
-use Rattle.who.specs.Row.{vacant, stationIn, isIn, goodStation, goodFrom, goodRow, wordOf, rollOf, noted, halved, bitOf, bareFirst, bareRecords, stationsOf, plain, flagged, isRow}
+use Rattle.who.specs.Logins.{loggedIn}
+use Rattle.who.specs.Row.{absent, stationIn, isIn, goodStation, goodFrom, goodRow, wordOf, rollOf, noted, halved, bitOf, bareFirst, bareRecords, stationsOf, plain, flagged, isRow}
 use Rattle.who.proofs.RecordLaws.{counts-is, is-counts, sound-is, is-sound, flag-small, flag-back, laid}
 use Rattle.who.proofs.WhoLaws.{logged-at, logged-past}
 use Rattle.who.proofs.WhoLaws as Records
@@ -52,10 +52,10 @@ module _ (xs : List Station) where
 
   pub roll-more : (i : ℕ) → i < length xs → noted i (stationIn xs i) (rollFrom (suc i)) ≡ rollFrom i
   unfolding rollFrom noted stationIn
-  roll-more i l = rw (drop-cons xs i vacant l) (unfold goodFrom wordOf in one (eqb (length xs) numbers) (goodFrom (suc i) (drop (suc i) xs)) (goodStation i (getD xs i vacant)) (wordOf (drop (suc i) xs)))
+  roll-more i l = rw (drop-cons xs i absent l) (unfold goodFrom wordOf in one (eqb (length xs) numbers) (goodFrom (suc i) (drop (suc i) xs)) (goodStation i (getD xs i absent)) (wordOf (drop (suc i) xs)))
     where
-      one : (a b c : Bool) (w : ℕ) → _≡_ {A = Roll} (cond ((a && b) && c) (record { good = true; word = flag (getD xs i vacant .logged) + 2 * cond (a && b) w 0 }) (record { good = false; word = 0 }))
-          (record { good = a && (c && b); word = cond (a && (c && b)) (flag (getD xs i vacant .logged) + 2 * w) 0 })
+      one : (a b c : Bool) (w : ℕ) → _≡_ {A = Roll} (cond ((a && b) && c) (record { good = true; word = flag (getD xs i absent .logged) + 2 * cond (a && b) w 0 }) (record { good = false; word = 0 }))
+          (record { good = a && (c && b); word = cond (a && (c && b)) (flag (getD xs i absent .logged) + 2 * w) 0 })
       one true true true w = refl
       one true true false w = refl
       one true false true w = refl
@@ -76,13 +76,13 @@ module _ (xs : List Station) where
       (λ m. let one : 2 ^ 0 ≤ 2 ^ j = pow-mono {i = 0} {j = j} (omega arith) in rw m (omega arith))
 
 -- each record of a good row keeps the rules of its number
-from-at : (k : ℕ) (xs : List Station) (i j : ℕ) → k + i ≡ j → goodFrom k xs ≡ true → i < length xs → goodStation j (getD xs i vacant) ≡ true
+from-at : (k : ℕ) (xs : List Station) (i j : ℕ) → k + i ≡ j → goodFrom k xs ≡ true → i < length xs → goodStation j (getD xs i absent) ≡ true
 unfolding goodFrom
 from-at k [] i j e h l = absurd (not-suc-le-zero l)
 from-at k (s ∷ xs) zero j e h l = let same : j ≡ k = omega arith in rw same (and-left (goodStation k s) (goodFrom (suc k) xs) h)
 from-at k (s ∷ xs) (suc i) j e h l = from-at (suc k) xs i j (omega arith) (and-right (goodStation k s) (goodFrom (suc k) xs) h) (le-of-suc-le-suc l)
 
-from-each : (k : ℕ) (xs : List Station) → ((i j : ℕ) → k + i ≡ j → i < length xs → goodStation j (getD xs i vacant) ≡ true) → goodFrom k xs ≡ true
+from-each : (k : ℕ) (xs : List Station) → ((i j : ℕ) → k + i ≡ j → i < length xs → goodStation j (getD xs i absent) ≡ true) → goodFrom k xs ≡ true
 unfolding goodFrom
 from-each k [] h = refl
 from-each k (s ∷ xs) h = and-both (h 0 k (omega arith) (omega arith)) (from-each (suc k) xs (λ i j e l. h (suc i) j (omega arith) (omega arith)))
@@ -114,20 +114,20 @@ station-counts n s h = and-left (goodCounts (s .misses) (s .slow)) _ h
 -- nobody is logged in past the end of a row
 pub in-past : (xs : List Station) (n : ℕ) → length xs ≤ n → isIn xs n ≡ false
 unfolding isIn stationIn
-in-past xs n h = ap (λ (s : Station). s .logged) (List·getD-eq-default xs vacant {n = n} h)
+in-past xs n h = ap (λ (s : Station). s .logged) (List·getD-eq-default xs absent {n = n} h)
 
 -- a word's bits are its records' flags
 word-rest : (xs : List Station) (n : ℕ) → halved (wordOf xs) n ≡ wordOf (drop n xs)
 unfolding halved
 word-rest xs zero = refl
 word-rest xs (suc n) = rw (word-rest xs n) (by-test (ltb n (length xs))
-    (λ y. rw (drop-cons xs n vacant (ltb-true n (length xs) y)) (unfold wordOf in omega (arith, flag-small (getD xs n vacant .logged))))
+    (λ y. rw (drop-cons xs n absent (ltb-true n (length xs) y)) (unfold wordOf in omega (arith, flag-small (getD xs n absent .logged))))
     (λ f. let out = ltb-false n (length xs) f in
     rw (drop-of-length-le xs {i = n} out, drop-of-length-le xs {i = suc n} (omega arith)) (unfold wordOf in refl)))
 
 word-bit : (xs : List Station) (n : ℕ) → n < length xs → bitOf (wordOf xs) n ≡ flag (isIn xs n)
 unfolding bitOf isIn stationIn
-word-bit xs n l = rw (word-rest xs n, drop-cons xs n vacant l) (unfold wordOf in omega (arith, flag-small (getD xs n vacant .logged)))
+word-bit xs n l = rw (word-rest xs n, drop-cons xs n absent l) (unfold wordOf in omega (arith, flag-small (getD xs n absent .logged)))
 
 -- the bare records have the length of a table, and enter each number's bit
 pub length-bare : (word n : ℕ) → length (bareFirst word n) ≡ 18 * numbers
@@ -162,7 +162,7 @@ module _ (w : List ℕ) where
 
   pub station-read : (n : ℕ) → n < numbers → stationIn (stationsOf w) n ≡ stationOf (row 18 w n)
   unfolding stationsOf stationIn
-  station-read n l = getD-build (λ k. stationOf (row 18 w k)) numbers n vacant l
+  station-read n l = getD-build (λ k. stationOf (row 18 w k)) numbers n absent l
 
   -- the same numbers are logged in
   pub stations-logged : length w ≡ 18 * numbers → (n : ℕ) → isIn (stationsOf w) n ≡ loggedIn w n

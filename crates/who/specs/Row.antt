@@ -15,9 +15,12 @@ use Rattle.who.specs.Good.{goodCounts, numbers}
 abbrev pub vacant : Station
 vacant = record { logged = false; misses = 0; slow = 0; name = replicate 8 0; serial = replicate 4 0; product = 0; found = false }
 
--- the record of number n
+-- the record of number n; there is nobody past the end of a row
+abbrev pub absent : Station
+absent = record { logged = false; misses = 0; slow = 0; name = []; serial = []; product = 0; found = false }
+
 unfoldable pub stationIn : List Station → ℕ → Station
-stationIn xs n = getD xs n vacant
+stationIn xs n = getD xs n absent
 
 -- number n is logged in
 unfoldable pub isIn : List Station → ℕ → Bool

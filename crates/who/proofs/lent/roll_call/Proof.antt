@@ -51,7 +51,7 @@ use denote.Signature.{Slot, plain, shrSliceOf}
 use Rattle.who.specs.declared.Station.{Station}
 use Rattle.who.specs.declared.Roll.{Roll}
 use Rattle.who.specs.Good.{numbers}
-use Rattle.who.specs.Row.{vacant, stationIn, rollOf, noted}
+use Rattle.who.specs.Row.{absent, stationIn, rollOf, noted}
 use Rattle.who.proofs.RowLaws.{rollFrom, roll-starts, roll-ends, roll-more, roll-fits}
 use Rattle.who.proofs.Station as T
 use Rattle.who.proofs.Station.Laws as T′
@@ -204,10 +204,10 @@ module _ {M : Type 1} (𝓤 : URA M) (H : Heap 𝓤) (A : Atoms 𝓤) (W : Given
           assigns ! (bin ! (load ! (from ! (fld ! refl (stop !))) (look-in ! 16 (sub ! 0 refl (whole !)))) (load ! (from ! (stop !)) (look ! 6 refl)) tt) (from ! (stop !)) (init ! 4 refl (tt, tt)) $
           rewrite ! 4 (λ (p : ℕ). ‵ (fat fullShare tyPtr l₇ 0 (vptr b p))) (sym (place-is 20 o k)) refl $
           looks-slice ! tt R (Is R) (shows 𝓤 H A R) (LL.vals T.the-type T′.the-laws) (LL.tells T.the-type T′.the-laws) (LL.copy T.the-type T′.the-copy 𝓤 H A W) ys b o (λ q′.
-          elem-out ! R (Is R) (shows 𝓤 H A R) (LL.vals T.the-type T′.the-laws) (LL.tells T.the-type T′.the-laws) q′ ys k vacant b o small (λ is.
+          elem-out ! R (Is R) (shows 𝓤 H A R) (LL.vals T.the-type T′.the-laws) (LL.tells T.the-type T′.the-laws) q′ ys k absent b o small (λ is.
           -- [row[k]; what it owns; the others; what shuts; the fractured borrow; _8 (5); …; _7 (7); …]
           assigns ! (of-opd ! (load ! (from ! (hop ! (look ! 7 refl) (stop !))) (look-raw ! 0 refl))) (from ! (stop !)) (init ! 5 refl (LL.lawful T.the-type T′.the-laws 𝓤 H A W .typed (elem k) _ is .0)) $
-          elem-back ! R q′ ys k vacant (mach (elem k) ∷ []) b o small $ shuts-slice ! tt R q′ ys b o $ move ! (1 ∷ 0 ∷ []) $
+          elem-back ! R q′ ys k absent (mach (elem k) ∷ []) b o small $ shuts-slice ! tt R q′ ys b o $ move ! (1 ∷ 0 ∷ []) $
           -- `note`
           use0 W (raw (Note 𝓤 H A mem run .pre (to-note k))) (goes-note k (index-fits (room .0) small) is) $
           calls-at-last ! (fmOf 𝓤 H (W .laws) 𝓣) (Note 𝓤 H A mem run) known-note (to-note k) (and-then ! (load ! (from ! (stop !)) (look ! 15 refl)) (and-then ! (load ! (from ! (stop !)) (look ! 3 refl)) (and-then ! (load ! (from ! (stop !)) (look ! 13 refl)) (no-more !)))) (λ w.

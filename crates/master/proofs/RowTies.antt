@@ -1,0 +1,157 @@
+-- The poll turn over a row of records is the poll turn over the bytes in which it stands; only one outcome; a refusal leaves everything.
+use Prim.Native.Nat.{ℕ, _*_, _≤_, _<_}
+use native.Mathlib.Omega.{arith}
+use mathlib.Core.Path.{_≡_, refl, sym, ap, subst, _∙_}
+use mathlib.Core.Bool.{Bool, true, false, cond, not, _&&_}
+use mathlib.Core.List.{List, []}
+use lib.Dec.{ltb}
+use lib.ListN.{length, take, set, drop-of-length-le, List·getD-eq-default}
+use lib.Seq.{getD-set-same}
+use borrow.Author.Tests.{ne-eqb, ltb-true, ltb-false}
+use Rattle.rows.proofs.BoolLaws.{by-test, by-eq, both}
+use Rattle.rows.specs.Outcomes.{Leaves}
+use Rattle.rows.specs.Rows.{part, row, setRow}
+use Rattle.rows.specs.Numbers.{lowFirst, lowBytes}
+use Rattle.who.specs.declared.Station.{Station}
+use Rattle.who.specs.Records.{flag, bytesOf, stationOf, nobody}
+use Rattle.who.specs.Good.{numbers}
+use Rattle.who.specs.Logins.{loggedIn, afterLogout}
+use Rattle.who.specs.Row.{vacant, absent, stationIn, isIn, stationsOf, isRow}
+use Rattle.who.specs.Turns.{isOut}
+use Rattle.who.proofs.RowLaws.{row-is, row-good, no-row, length-stations, station-read, stations-logged}
+use Rattle.who.proofs.WhoLaws.{logged-below}
+use Rattle.locks.specs.Good.{locks, soundRows, goodLocks}
+use Rattle.locks.proofs.GoodLaws.{sound-same}
+use Rattle.master.specs.declared.PolledRow.{PolledRow}
+use Rattle.master.specs.declared.Turned.{Turned}
+use Rattle.master.specs.declared.Turned.the-variants.{Refused, Turn}
+use Rattle.master.specs.Answers.{Told, refuses, answers}
+use Rattle.master.specs.Tables.{goodTables}
+use Rattle.master.specs.Refusals.{unknown}
+use Rattle.master.specs.Polls.{turnTold, stationAt, dueAt, outAt, pollRefusal, turnLocks, turnRecords, pollTold, pollLocks, pollRecords, Polls}
+use Rattle.master.specs.RowPolls.{early, rowRefusal, turned, stepTold, stepLocks, rowAfter, RowPolls, isTurn, writtenBack}
+use Rattle.master.proofs.PollKeeps.{seated, turn-told-one}
+
+-- any two outcomes of a poll turn over a row are equal
+pub row-polls-one : {n : ℕ} {h : Bool} {xs : List Station} {t : List ℕ} {r r′ : Turned} {xs₁ xs₂ : List Station} {t₁ t₂ : List ℕ} → RowPolls n h xs t r xs₁ t₁ → RowPolls n h xs t r′ xs₂ t₂ → (r ≡ r′) × (xs₁ ≡ xs₂) × (t₁ ≡ t₂)
+row-polls-one a b = (turn-told-one _ _ (a .answer ∙ sym (b .answer)), a .row ∙ sym (b .row), a .locks ∙ sym (b .locks))
+
+-- a refused one: the row and the locks are what they were, and nothing is answered
+pub refused-row-untouched : (n : ℕ) (h : Bool) (xs : List Station) (t : List ℕ) (r : Turned) (xs′ : List Station) (t′ : List ℕ) → RowPolls n h xs t r xs′ t′ → (rowRefusal n h xs t ≡ 0 → ⊥)
+    → (r ≡ Refused (rowRefusal n h xs t)) × (xs′ ≡ xs) × (t′ ≡ t)
+unfolding stepTold stepLocks rowAfter turnTold
+refused-row-untouched n h xs t r xs′ t′ a ne =
+    let m = ne-eqb (rowRefusal n h xs t) 0 ne in
+    let tells : turnTold r ≡ turnTold (Refused (rowRefusal n h xs t)) = a .answer ∙ rw m in
+    let same-row : xs′ ≡ xs = a .row ∙ rw m in
+    let same-locks : t′ ≡ t = a .locks ∙ rw m in
+    (turn-told-one _ _ tells, same-row, same-locks)
+
+-- what is told says whether there was a turn
+told-turn : Told → Bool
+told-turn (refuses k) = false
+told-turn (answers l) = true
+
+turn-by-told : (r : Turned) → isTurn r ≡ told-turn (turnTold r)
+unfolding isTurn told-turn turnTold
+turn-by-told (Refused k) = refl
+turn-by-told (Turn due out) = refl
+
+-- the row that stands in the bytes w
+module _ (n : ℕ) (heard : Bool) (w t : List ℕ) (stands : isRow w ≡ true) where
+  abbrev xs : List Station
+  xs = stationsOf w
+
+  sized : length w ≡ 18 * numbers
+  sized = row-is w stands .sized
+
+  same-locks : soundRows locks (isIn xs) t ≡ goodLocks w t
+  unfolding goodLocks
+  same-locks = sound-same locks t (isIn xs) (loggedIn w) (stations-logged w sized)
+
+  -- 12 in both, where a number has no record too
+  past-row : numbers ≤ n → row 18 w n ≡ []
+  unfolding part
+  past-row h = ap (take 18) (drop-of-length-le w {i = 18 * n} (omega (arith, sized)))
+
+  past-station : numbers ≤ n → stationIn xs n ≡ absent
+  unfolding stationIn
+  past-station h = List·getD-eq-default xs absent {n = n} (omega (arith, length-stations w))
+
+  same-early : early (stationIn xs n) heard ≡ cond (heard && not (dueAt w n)) 12 0
+  unfolding early dueAt stationAt stationOf part lowFirst
+  same-early = by-test (ltb n numbers)
+      (λ y. ap (λ (s : Station). early s heard) (station-read w n (ltb-true n numbers y)))
+      (λ m.
+      let h = ltb-false n numbers m in
+      ap (λ (s : Station). early s heard) (past-station h) ∙ sym (ap (λ (r : List ℕ). early (stationOf r) heard) (past-row h)))
+
+  same-refusal : rowRefusal n heard xs t ≡ pollRefusal n heard t w
+  unfolding rowRefusal pollRefusal goodTables unknown
+  same-refusal = rw (row-good w stands, same-locks, stations-logged w sized n, same-early)
+
+  abbrev k : ℕ
+  k = pollRefusal n heard t w
+
+  module _ (z : k ≡ 0) where
+    below : n < numbers
+    below = logged-below w sized n (seated n heard t w z .0)
+
+    read : stationIn xs n ≡ stationAt w n
+    unfolding stationAt
+    read = station-read w n below
+
+    -- the record after the turn, in bytes
+    same-record : setRow 18 w n (bytesOf (turned (stationAt w n) heard)) ≡ turnRecords n heard w
+    unfolding turned turnRecords outAt afterLogout
+    same-record = by-test (isOut (stationAt w n .misses) (stationAt w n .slow) heard) (λ y. rw y vacant-bytes) (λ m. rw m)
+      where
+        vacant-bytes : setRow 18 w n (bytesOf vacant) ≡ setRow 18 w n nobody
+        vacant-bytes = ap (setRow 18 w n) (unfold bytesOf lowBytes flag in refl)
+
+    turned-record : (xs′ : List Station) → xs′ ≡ rowAfter n heard xs t → stationIn xs′ n ≡ turned (stationAt w n) heard
+    unfolding rowAfter stationIn
+    turned-record xs′ e =
+        let after : xs′ ≡ set xs n (turned (stationIn xs n) heard) = e ∙ rw (same-refusal, z) in
+        ap (λ (l : List Station). stationIn l n) after
+        ∙ getD-set-same xs n (turned (stationIn xs n) heard) absent (omega (arith, length-stations w, below))
+        ∙ ap (λ (s : Station). turned s heard) read
+
+  -- the outcome over the row, written back, is the outcome over the bytes
+  pub row-ties : (r : Turned) (xs′ : List Station) (t′ : List ℕ) → RowPolls n heard xs t r xs′ t′ → Polls n heard t w r t′ (writtenBack n (record { row = xs′; answer = r }) w)
+  unfolding stepTold stepLocks pollTold pollLocks pollRecords turnLocks dueAt outAt writtenBack told-turn
+  row-ties r xs′ t′ a = by-eq k 0
+      (λ z.
+      let turn : isTurn r ≡ true = turn-by-told r ∙ ap told-turn (a .answer) ∙ rw (same-refusal, z) in record {
+        answer = a .answer ∙ rw (same-refusal, z, read z);
+        locks = a .locks ∙ rw (same-refusal, z, read z);
+        records = rw (turn, z, turned-record z xs′ (a .row)) (same-record z);
+      })
+      (λ ne.
+      let m = ne-eqb k 0 ne in
+      let still : isTurn r ≡ false = turn-by-told r ∙ ap told-turn (a .answer) ∙ rw (same-refusal, m) in record {
+        answer = a .answer ∙ rw (same-refusal, m);
+        locks = a .locks ∙ rw (same-refusal, m);
+        records = rw (still, m);
+      })
+
+  -- the same of a row that was read out of the bytes: a turn is that of a number with a record, and what is written back is the outcome
+  module _ (ys : List Station) (read-out : ys ≡ stationsOf w) (p : PolledRow) (t′ : List ℕ) (polls : RowPolls n heard ys t (p .answer) (p .row) t′) where
+    over-row : RowPolls n heard xs t (p .answer) (p .row) t′
+    over-row = subst (λ (l : List Station). RowPolls n heard l t (p .answer) (p .row) t′) read-out polls
+
+    pub turn-below : isTurn (p .answer) ≡ true → n < numbers
+    unfolding stepTold told-turn
+    turn-below y = by-eq k 0 below (λ ne. both y (turn-by-told (p .answer) ∙ ap told-turn (over-row .answer) ∙ rw (same-refusal, ne-eqb k 0 ne)))
+
+    pub polls-written : (r : Turned) (w′ : List ℕ) → Leaves (p .answer) (writtenBack n p w) r w′ → Polls n heard t w r t′ w′
+    polls-written r w′ l = let d = row-ties (p .answer) (p .row) t′ over-row in record {
+      answer = ap turnTold (l .answer) ∙ d .answer;
+      locks = d .locks;
+      records = l .left ∙ d .records;
+    }
+
+-- bytes in which no row stands are bad tables
+pub row-missing : (t w : List ℕ) → isRow w ≡ false → goodTables t w ≡ false
+unfolding goodTables
+row-missing t w m = rw (no-row w m)
