@@ -16,9 +16,10 @@ use Rattle.who.specs.declared.Station.{Station}
 use Rattle.who.specs.Records.{flag, bytesOf, stationOf, nobody}
 use Rattle.who.specs.Good.{numbers}
 use Rattle.who.specs.Logins.{loggedIn, afterLogout}
-use Rattle.who.specs.Row.{vacant, absent, stationIn, isIn, stationsOf, isRow}
+use Rattle.who.specs.Row.{vacant, absent, stationIn, isIn, goodRow, bytesOfRow, stationsOf, isRow}
 use Rattle.who.specs.Turns.{isOut}
 use Rattle.who.proofs.RowLaws.{row-is, row-good, no-row, length-stations, station-read, stations-logged}
+use Rattle.who.proofs.RowBytes.{Long, LongRow, TypedRow, length-row-bytes, stations-again, row-stands, put-same, bytes-put}
 use Rattle.who.proofs.WhoLaws.{logged-below}
 use Rattle.locks.specs.Good.{locks, soundRows, goodLocks}
 use Rattle.locks.proofs.GoodLaws.{sound-same}
@@ -28,8 +29,9 @@ use Rattle.master.specs.declared.Turned.the-variants.{Refused, Turn}
 use Rattle.master.specs.Answers.{Told, refuses, answers}
 use Rattle.master.specs.Tables.{goodTables}
 use Rattle.master.specs.Refusals.{unknown}
-use Rattle.master.specs.Polls.{turnTold, stationAt, dueAt, outAt, pollRefusal, turnLocks, turnRecords, pollTold, pollLocks, pollRecords, Polls}
+use Rattle.master.specs.Polls.{turnTold, stationAt, dueAt, outAt, withCounts, afterTurn, pollRefusal, turnLocks, turnRecords, pollTold, pollLocks, pollRecords, Polls}
 use Rattle.master.specs.RowPolls.{early, rowRefusal, turned, stepTold, stepLocks, rowAfter, RowPolls, isTurn, writtenBack}
+use Rattle.master.proofs.PollLaws.{polls-refused, poll-bad-tables}
 use Rattle.master.proofs.PollKeeps.{seated, turn-told-one}
 
 -- any two outcomes of a poll turn over a row are equal
@@ -155,3 +157,67 @@ module _ (n : ℕ) (heard : Bool) (w t : List ℕ) (stands : isRow w ≡ true) w
 pub row-missing : (t w : List ℕ) → isRow w ≡ false → goodTables t w ≡ false
 unfolding goodTables
 row-missing t w m = rw (no-row w m)
+
+-- a turn keeps the lengths of a record's parts
+turned-long : (s : Station) (heard : Bool) → Long s → Long (turned s heard)
+unfolding turned afterTurn withCounts
+turned-long s heard h = by-test (isOut (s .misses) (s .slow) heard)
+    (λ y. rw y (record { name = refl; serial = refl }))
+    (λ m. rw m (record { name = h .name; serial = h .serial }))
+
+-- a poll turn over a row of records, in bytes before and after, is the poll turn over these bytes
+module _ (n : ℕ) (heard : Bool) (ys : List Station) (t : List ℕ) (typed : TypedRow ys) (r : Turned) (ys′ : List Station) (t′ : List ℕ) (a : RowPolls n heard ys t r ys′ t′) where
+  longs : LongRow ys
+  longs i l = typed i l .long
+
+  abbrev bytes : List ℕ
+  bytes = bytesOfRow ys
+
+  written : length ys ≡ numbers → (isTurn r ≡ true → n < numbers) → bytesOfRow ys′ ≡ writtenBack n (record { row = ys′; answer = r }) bytes
+  unfolding writtenBack rowAfter stepTold told-turn
+  written sized below-then = by-eq (rowRefusal n heard ys t) 0
+      (λ z.
+      let turn : isTurn r ≡ true = turn-by-told r ∙ ap told-turn (a .answer) ∙ rw z in
+      let l = below-then turn in
+      let s = turned (stationIn ys n) heard in
+      let h = turned-long (stationIn ys n) heard (longs n (omega arith)) in
+      let after : ys′ ≡ set ys n s = a .row ∙ rw z in
+      let back : stationIn ys′ n ≡ s = ap (λ (q : List Station). stationIn q n) after ∙ put-same ys longs sized n l s h in
+      rw (turn, back) (ap bytesOfRow after ∙ bytes-put ys longs sized n l s h))
+      (λ ne.
+      let m = ne-eqb (rowRefusal n heard ys t) 0 ne in
+      let still : isTurn r ≡ false = turn-by-told r ∙ ap told-turn (a .answer) ∙ rw m in
+      let same : ys′ ≡ ys = a .row ∙ rw m in
+      rw still (ap bytesOfRow same))
+
+  full-row : length ys ≡ numbers → Polls n heard t bytes r t′ (bytesOfRow ys′)
+  full-row sized =
+      let stands = row-stands ys longs sized in
+      let again = stations-again ys longs sized typed in
+      let over = subst (λ (l : List Station). RowPolls n heard l t r ys′ t′) (sym again) a in
+      let d = row-ties n heard bytes t stands r ys′ t′ over in record {
+        answer = d .answer;
+        locks = d .locks;
+        records = written sized (turn-below n heard bytes t stands ys (sym again) (record { row = ys′; answer = r }) t′ a) ∙ d .records;
+      }
+
+  -- a row of another length is refused, and so are its bytes
+  row-11 : (length ys ≡ numbers → ⊥) → rowRefusal n heard ys t ≡ 11
+  unfolding rowRefusal goodRow
+  row-11 ne = rw (ne-eqb (length ys) numbers ne)
+
+  bytes-11 : (length ys ≡ numbers → ⊥) → isRow bytes ≡ false
+  unfolding isRow
+  bytes-11 ne = rw (ne-eqb (length bytes) (18 * numbers) (λ e. ne (omega (arith, length-row-bytes ys longs))))
+
+  other-size : (length ys ≡ numbers → ⊥) → Polls n heard t bytes r t′ (bytesOfRow ys′)
+  other-size ne =
+      let u = refused-row-untouched n heard ys t r ys′ t′ a (λ z. let lie : _≡_ {A = ℕ} 11 0 = sym (row-11 ne) ∙ z in omega arith) in
+      let d = polls-refused n heard t bytes 11 (poll-bad-tables n heard t bytes (row-missing t bytes (bytes-11 ne))) (λ e. omega arith) in record {
+        answer = ap turnTold (u .0 ∙ ap Refused (row-11 ne)) ∙ d .answer;
+        locks = u .2 ∙ d .locks;
+        records = ap bytesOfRow (u .1) ∙ d .records;
+      }
+
+  pub row-encodes : Polls n heard t bytes r t′ (bytesOfRow ys′)
+  row-encodes = by-eq (length ys) numbers full-row other-size

@@ -99,7 +99,8 @@ fn turn_one(s: Station, number: u8, heard: bool, locks: &mut [u8]) -> Polled
 pub fn slot_of(number: u32) -> usize
     ensures { λ r. ⌜ r ≡ cond (ltb number numbers) number 0 ⌝ }
 {
-    if number < 64 { number as usize } else { 0 }
+    let at = number as usize;
+    if at < who::NUMBERS { at } else { 0 }
 }
 
 // The turn of one record of a row with this roll: 11, 2, 5, 12, or the turn.

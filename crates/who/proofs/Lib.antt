@@ -2,3 +2,4 @@ pub mod RecordLaws
 pub mod WhoLaws
 pub mod TurnLaws
 pub mod RowLaws
+pub mod RowBytes

@@ -148,7 +148,7 @@ module _ (s : Station) where
     unfolding bytesOf lowBytes
     serial-bytesOf = part-mid (front ++ s .name) (s .serial) 12 4 (omega arith) serial back
 
-    back-bytesOf : (k : ℕ) → getD (bytesOf s) (16 + k) 0 ≡ getD back k 0
+    pub back-bytesOf : (k : ℕ) → getD (bytesOf s) (16 + k) 0 ≡ getD back k 0
     unfolding bytesOf lowBytes
     back-bytesOf k =
         let long : length ((front ++ s .name) ++ s .serial) ≡ 16 = simp length-append (omega arith) in

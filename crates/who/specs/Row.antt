@@ -1,14 +1,14 @@
 -- The 64 station records as one row of records, one per user number: their rules, who is logged in, and the row in bytes.
 use Prim.Native.Nat.{ℕ, zero, suc, _+_, _*_, _/_, _%_}
 use mathlib.Core.Bool.{Bool, true, false, cond, not, _&&_, _||_}
-use mathlib.Core.List.{List, [], _∷_}
+use mathlib.Core.List.{List, [], _∷_, _++_}
 use lib.Dec.{eqb, leb}
 use lib.ListN.{length, getD, set, replicate}
 use Rattle.rows.specs.Words.{all, build, zeros}
 use Rattle.rows.specs.Rows.{row}
 use Rattle.who.specs.declared.Station.{Station}
 use Rattle.who.specs.declared.Roll.{Roll}
-use Rattle.who.specs.Records.{flag, stationOf}
+use Rattle.who.specs.Records.{flag, bytesOf, stationOf}
 use Rattle.who.specs.Good.{goodCounts, numbers}
 
 -- zero and no throughout
@@ -79,6 +79,11 @@ bareFirst word (suc n) = set (bareFirst word n) (18 * n) (bitOf word n)
 
 unfoldable pub bareRecords : ℕ → List ℕ
 bareRecords word = bareFirst word numbers
+
+-- a row in bytes, one record after the other
+unfoldable pub bytesOfRow : List Station → List ℕ
+bytesOfRow [] = []
+bytesOfRow (s ∷ xs) = bytesOf s ++ bytesOfRow xs
 
 -- the row that stands in bytes, and bytes in which one stands: 64 records with flags 0 or 1
 unfoldable pub stationsOf : List ℕ → List Station
