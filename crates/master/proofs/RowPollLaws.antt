@@ -21,7 +21,7 @@ use Rattle.who.proofs.WhoLaws.{logged-below}
 use Rattle.locks.specs.Good.{locks, soundRows, goodLocks}
 use Rattle.locks.specs.Table.{clearedTable}
 use Rattle.locks.proofs.GoodLaws.{sound-same}
-use Rattle.master.specs.declared.Polled.{Polled}
+use Rattle.master.specs.declared.Step.{Step}
 use Rattle.master.specs.declared.Turned.the-variants.{Refused, Turn as Turned′}
 use Rattle.master.specs.Refusals.{ANYBODY, unknown}
 use Rattle.master.specs.Polls.{turnTold, withCounts, afterTurn}
@@ -119,7 +119,7 @@ module _ (roll : Roll) (n : ℕ) (heard : Bool) (s : Station) (t : List ℕ) whe
       let m = ne-eqb k 0 ne in
       record { answer = rw (sym e, m, m); next = rw (sym e, m, m); locks = rw (sym e, m, m) }
 
-  pub steps-turned : rollRefusal roll n t ≡ 0 → (p : Polled) (t′ : List ℕ) → Steps (early s heard) n s heard t p t′ → Steps (stepRefusal roll n s heard t) n s heard t p t′
+  pub steps-turned : rollRefusal roll n t ≡ 0 → (p : Step) (t′ : List ℕ) → Steps (early s heard) n s heard t p t′ → Steps (stepRefusal roll n s heard t) n s heard t p t′
   unfolding stepRefusal
   steps-turned z p t′ d = rw z d
 
@@ -172,7 +172,7 @@ module _ (n : ℕ) (heard : Bool) (xs : List Station) (t : List ℕ) where
         (λ ne. rw (ne-eqb seat 0 ne))
         ∙ sym row-refusal
 
-    pub row-steps : (p : Polled) (t′ : List ℕ) → Steps (stepRefusal (rollOf xs) n (stationIn xs at) heard t) n (stationIn xs at) heard t p t′ → RowPolls n heard xs t (p .answer) (set xs at (p .next)) t′
+    pub row-steps : (p : Step) (t′ : List ℕ) → Steps (stepRefusal (rollOf xs) n (stationIn xs at) heard t) n (stationIn xs at) heard t p t′ → RowPolls n heard xs t (p .answer) (set xs at (p .next)) t′
     unfolding rowAfter stepTold stepLocks stationIn
     row-steps p t′ d₀ =
         let k = rowRefusal n heard xs t in

@@ -13,7 +13,7 @@ use Rattle.who.specs.Row.{vacant, stationIn, isIn, goodRow, bareRecords}
 use Rattle.who.specs.Turns.{isDue, isOut}
 use Rattle.locks.specs.Good.{locks, soundRows, goodLocks}
 use Rattle.locks.specs.Table.{clearedTable}
-use Rattle.master.specs.declared.Polled.{Polled}
+use Rattle.master.specs.declared.Step.{Step}
 use Rattle.master.specs.declared.PolledRow.{PolledRow}
 use Rattle.master.specs.declared.Turned.{Turned}
 use Rattle.master.specs.declared.Turned.the-variants.{Refused, Turn}
@@ -70,7 +70,7 @@ unfoldable pub stepRefusal : Roll → ℕ → Station → Bool → List ℕ → 
 stepRefusal roll n s heard t = cond (eqb (rollRefusal roll n t) 0) (early s heard) (rollRefusal roll n t)
 
 -- what the turn of one record gives and leaves, with refusal k
-pub record Steps (k n : ℕ) (s : Station) (heard : Bool) (t : List ℕ) (p : Polled) (t′ : List ℕ) : Type 0 where
+pub record Steps (k n : ℕ) (s : Station) (heard : Bool) (t : List ℕ) (p : Step) (t′ : List ℕ) : Type 0 where
   pub answer : turnTold (p .answer) ≡ stepTold k s heard
   pub next : p .next ≡ cond (eqb k 0) (turned s heard) s
   pub locks : t′ ≡ stepLocks k n s heard t

@@ -43,7 +43,7 @@ pub enum Turned {
 }
 
 // What one record becomes in a poll turn, and the answer to it.
-pub struct Polled {
+pub struct Step {
     pub next: Station,
     pub answer: Turned,
 }

@@ -1,7 +1,7 @@
 // One poll turn: the refusals that the tables and the number give, the turn of one record by value, and the row that is
 // lent for it.
-use crate::Polled;
 use crate::PolledRow;
+use crate::Step;
 use crate::Turned;
 use crate::refusals;
 use who::Roll;
@@ -65,20 +65,20 @@ fn roll_refusal(roll: Roll, number: u32, locks: &[u8]) -> u8
 }
 
 // The turn of a record that is logged in: 12, or the turn. A station that is out loses its locks and its record.
-fn turn_one(s: Station, number: u8, heard: bool, locks: &mut [u8]) -> Polled
+fn turn_one(s: Station, number: u8, heard: bool, locks: &mut [u8]) -> Step
     requires { ⌜ goodCounts (s .misses) (s .slow) ≡ true ⌝ }
     ensures { λ r. ⌜ Steps (early s heard) number s heard (now (locks .entry)) r (now (locks .exit)) ⌝ }
 {
     let turn = who::turn_of(s.misses, s.slow, heard);
     if is_early(heard, turn.due) {
-        return Polled {
+        return Step {
             next: s,
             answer: Turned::Refused(12),
         };
     }
     if turn.out {
         locks::free_all(locks, number);
-        return Polled {
+        return Step {
             next: who::lent::vacant(),
             answer: Turned::Turn {
                 due: turn.due,
@@ -86,7 +86,7 @@ fn turn_one(s: Station, number: u8, heard: bool, locks: &mut [u8]) -> Polled
             },
         };
     }
-    Polled {
+    Step {
         next: after_turn(s, turn),
         answer: Turned::Turn {
             due: turn.due,
@@ -104,13 +104,13 @@ pub fn slot_of(number: u32) -> usize
 }
 
 // The turn of one record of a row with this roll: 11, 2, 5, 12, or the turn.
-pub fn poll_one(s: Station, roll: Roll, number: u32, heard: bool, locks: &mut [u8]) -> Polled
+pub fn poll_one(s: Station, roll: Roll, number: u32, heard: bool, locks: &mut [u8]) -> Step
     requires { ⌜ goodCounts (s .misses) (s .slow) ≡ true ⌝ }
     ensures { λ r. ⌜ Steps (stepRefusal roll number s heard (now (locks .entry))) number s heard (now (locks .entry)) r (now (locks .exit)) ⌝ }
 {
     let refusal = roll_refusal(roll, number, locks);
     if refusal != 0 {
-        return Polled {
+        return Step {
             next: s,
             answer: Turned::Refused(refusal),
         };

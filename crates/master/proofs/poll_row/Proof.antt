@@ -62,15 +62,15 @@ use Rattle.who.proofs.lent.roll_call as roll
 use Rattle.who.proofs.lent.roll_call.Symbol as roll-def
 use Rattle.who.proofs.lent.roll_call.Symbol.{name as #who·roll-call}
 use Rattle.who.proofs.lent.roll_call.Met as roll-thm
-use Rattle.master.specs.declared.Polled.{Polled}
+use Rattle.master.specs.declared.Step.{Step}
 use Rattle.master.specs.declared.Turned.{Turned}
 use Rattle.master.specs.declared.Turned.the-variants.{Refused}
 use Rattle.master.specs.RowPolls.{RowPolls, stepRefusal, Steps}
 use Rattle.master.proofs.RowPollLaws.{slot-below, row-bad, row-steps}
 use Rattle.master.proofs.Turned as P
 use Rattle.master.proofs.Turned.Laws as P′
-use Rattle.master.proofs.Polled as U
-use Rattle.master.proofs.Polled.Laws as U′
+use Rattle.master.proofs.Step as U
+use Rattle.master.proofs.Step.Laws as U′
 use Rattle.master.proofs.poll.slot_of as slot
 use Rattle.master.proofs.poll.slot_of.Symbol as slot-def
 use Rattle.master.proofs.poll.slot_of.Symbol.{name as #master·slot-of}
@@ -174,7 +174,7 @@ module _ {M : Type 1} (𝓤 : URA M) (H : Heap 𝓤) (A : Atoms 𝓤) (W : Given
   abbrev elem : Station
   elem = stationIn ys k
 
-  abbrev Stepped : Polled → List ℕ → Type 0
+  abbrev Stepped : Step → List ℕ → Type 0
   Stepped p t′ = Steps (stepRefusal rolled m elem y ts) m elem y ts p t′
 
   abbrev Arg : Type 0
@@ -286,7 +286,7 @@ module _ {M : Type 1} (𝓤 : URA M) (H : Heap 𝓤) (A : Atoms 𝓤) (W : Given
           -- `poll_one`, which is given the locks: [pre; row[k]; what it owns; the others; the open borrow; obs; auth; _16 (7); …; _15 (9); …; _13 (13); …; _5 (29); …; _4 (31); …; _3 (33); …]
           nothing ! $ move ! (7 ∷ 0 ∷ 8 ∷ []) $ join ! $ use2 W (raw (One 𝓤 H A mem run .pre to-one)) (goes-one fits is is-o (station-counts k elem (good-is ys good .each k (slot-below m)))) $
           calls-at ! fm (One 𝓤 H A mem run) known-one to-one (and-then ! (load ! (from ! (stop !)) (look ! 13 refl)) (and-then ! (load ! (from ! (stop !)) (look ! 29 refl)) (and-then ! (load ! (from ! (stop !)) (look ! 33 refl)) (and-then ! (load ! (from ! (stop !)) (look ! 31 refl)) (and-then ! (load ! (from ! (stop !)) (look ! 9 refl)) (no-more !)))))) (λ w.
-          use1 W (later (some (λ (p : Polled). ((‵ (flft κ₂ q₂) ⊛ ‵ ftrue) ⊛ ‵ (U.the-row .own p (w ∷ []))) ⊛ raw (ensured 𝓤 H A one.ended (one.clauses 𝓤 H A mem run) (κ₂, tt) (elem, (rolled, (m, (y, (x₂, tt))))) tt p)))) (id⊢ 𝓤 _) $ await ! tt $ pick ! (λ p.
+          use1 W (later (some (λ (p : Step). ((‵ (flft κ₂ q₂) ⊛ ‵ ftrue) ⊛ ‵ (U.the-row .own p (w ∷ []))) ⊛ raw (ensured 𝓤 H A one.ended (one.clauses 𝓤 H A mem run) (κ₂, tt) (elem, (rolled, (m, (y, (x₂, tt))))) tt p)))) (id⊢ 𝓤 _) $ await ! tt $ pick ! (λ p.
           split ! $ move ! (1 ∷ []) $ use1 W (some (λ (ws : Unit {0} × (Unit {0} × (Unit {0} × (Unit {0} × (List ℕ × Unit {0}))))). ‵ (lasts one.ended (κ₂, tt) (elem, (rolled, (m, (y, (x₂, tt))))) ws) ⊛ raw (fact 𝓤 (Stepped p (ws .1 .1 .1 .1 .0))))) (id⊢ 𝓤 _) $ pick ! (λ ws.
           split ! $ move ! (1 ∷ []) $ heard ! (Stepped p (ws .1 .1 .1 .1 .0)) (λ e. fsplit ! $ drop ! $ fsplit ! $ drop ! $ fsplit ! $ drop ! $ fsplit ! $ drop ! $ fsplit ! $ fsplit ! $ move ! (1 ∷ []) $ feqL ! (λ long.
           move ! (1 ∷ []) $ drop ! $ move ! (1 ∷ []) $ split ! $ split ! $ move ! (1 ∷ []) $ drop ! $ move ! (1 ∷ []) $ peeks ! U.the-row (Is U.the-row) (shows 𝓤 H A U.the-row) p (w ∷ []) (λ is′. drop ! $ move ! (2 ∷ 3 ∷ 4 ∷ 5 ∷ 6 ∷ 7 ∷ []) $
