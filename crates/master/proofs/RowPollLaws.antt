@@ -1,4 +1,4 @@
--- The cases of a poll turn over a row, one law each: the refusals of a roll, the turn of one record, and what it makes of the row.
+-- The cases of a poll turn over a row, one law each: the refusals of a word, the turn of one record, and what it makes of the row.
 use Prim.Native.Nat.{ℕ, _<_}
 use native.Mathlib.Omega.{arith}
 use mathlib.Core.Path.{_≡_, refl, sym, ap, subst, _∙_}
@@ -9,7 +9,6 @@ use lib.ListN.{set}
 use lib.Seq.{set-getD}
 use borrow.Author.Tests.{ne-eqb, ltb-true, ltb-false}
 use Rattle.rows.proofs.BoolLaws.{by-test, by-eq, both}
-use Rattle.who.specs.declared.Roll.{Roll}
 use Rattle.who.specs.declared.Station.{Station}
 use Rattle.who.specs.declared.Turn.{Turn}
 use Rattle.who.specs.Good.{numbers}
@@ -25,22 +24,17 @@ use Rattle.master.specs.declared.Step.{Step}
 use Rattle.master.specs.declared.Turned.the-variants.{Refused, Turn as Turned′}
 use Rattle.master.specs.Refusals.{ANYBODY, unknown}
 use Rattle.master.specs.Polls.{turnTold, withCounts, afterTurn}
-use Rattle.master.specs.RowPolls.{early, rowRefusal, turned, stepTold, stepLocks, rowAfter, RowPolls, rollRefusal, stepRefusal, Steps}
+use Rattle.master.specs.RowPolls.{early, rowRefusal, turned, stepTold, stepLocks, rowAfter, RowPolls, wordRefusal, stepRefusal, Steps}
 
--- the refusals of a roll: its own test, the lock table's beside the bare records, and the number's
-module _ (roll : Roll) (n : ℕ) (t : List ℕ) where
-  pub roll-bad : roll .good ≡ false → 11 ≡ rollRefusal roll n t
-  unfolding rollRefusal
-  roll-bad m = rw m
+-- the refusals of a word: the lock table's test beside the bare records, and the number's
+module _ (word n : ℕ) (t b : List ℕ) (bare : b ≡ bareRecords word) where
+  pub locks-bad : goodLocks b t ≡ false → 11 ≡ wordRefusal word n t
+  unfolding wordRefusal
+  locks-bad m = rw (sym (ap (λ (w : List ℕ). goodLocks w t) bare) ∙ m)
 
-  module _ (good : roll .good ≡ true) (b : List ℕ) (bare : b ≡ bareRecords (roll .word)) where
-    pub locks-bad : goodLocks b t ≡ false → 11 ≡ rollRefusal roll n t
-    unfolding rollRefusal
-    locks-bad m = rw (good, sym (ap (λ (w : List ℕ). goodLocks w t) bare) ∙ m)
-
-    pub seat-left : goodLocks b t ≡ true → (k : ℕ) → k ≡ cond (unknown n b) 2 (cond (eqb n 0 || eqb n ANYBODY) 5 0) → k ≡ rollRefusal roll n t
-    unfolding rollRefusal
-    seat-left y k e = e ∙ rw (good, sym (ap (λ (w : List ℕ). goodLocks w t) bare) ∙ y) (ap (λ (w : List ℕ). cond (unknown n w) 2 (cond (eqb n 0 || eqb n ANYBODY) 5 0)) bare)
+  pub seat-left : goodLocks b t ≡ true → (k : ℕ) → k ≡ cond (unknown n b) 2 (cond (eqb n 0 || eqb n ANYBODY) 5 0) → k ≡ wordRefusal word n t
+  unfolding wordRefusal
+  seat-left y k e = e ∙ rw (sym (ap (λ (w : List ℕ). goodLocks w t) bare) ∙ y) (ap (λ (w : List ℕ). cond (unknown n w) 2 (cond (eqb n 0 || eqb n ANYBODY) 5 0)) bare)
 
 -- three tests in front of a last number
 module _ (a b c : Bool) where
@@ -67,13 +61,13 @@ seated false true z p q = both refl q
 seated false false true p q = (refl, refl)
 seated false false false p q = both refl p
 
--- a number that a roll does not refuse has a record
-pub roll-seated : (roll : Roll) (n : ℕ) (t : List ℕ) → rollRefusal roll n t ≡ 0 → n < numbers
-unfolding rollRefusal unknown bareRecords
-roll-seated roll n t z =
-    let w = bareRecords (roll .word) in
-    let p = three-pass (not (roll .good && goodLocks w t)) (not (eqb n ANYBODY || loggedIn w n)) (eqb n 0 || eqb n ANYBODY) z in
-    logged-below w (length-bare (roll .word) numbers) n (seated (eqb n ANYBODY) (eqb n 0) (loggedIn w n) (p .1) (p .2) .0)
+-- a number that is not refused has a record
+pub word-seated : (word n : ℕ) (t : List ℕ) → wordRefusal word n t ≡ 0 → n < numbers
+unfolding wordRefusal unknown bareRecords
+word-seated word n t z =
+    let w = bareRecords word in
+    let p = three-pass (not (goodLocks w t)) (not (eqb n ANYBODY || loggedIn w n)) (eqb n 0 || eqb n ANYBODY) z in
+    logged-below w (length-bare word numbers) n (seated (eqb n ANYBODY) (eqb n 0) (loggedIn w n) (p .1) (p .2) .0)
 
 -- the turn of the record s, decided as r
 module _ (n : ℕ) (heard : Bool) (s : Station) (t : List ℕ) (r : Turn) (decided : r ≡ turnOf (s .misses) (s .slow) heard) where
@@ -111,15 +105,15 @@ module _ (n : ℕ) (heard : Bool) (s : Station) (t : List ℕ) (r : Turn) (decid
       let o : isOut (s .misses) (s .slow) heard ≡ false = sym out-is ∙ y in
       record { answer = rw (h, o, due-is); next = rw (h, o) (a ∙ after-is); locks = rw (h, o) }
 
--- the turn of the record s in a row with this roll: refused for its number, or turned
-module _ (roll : Roll) (n : ℕ) (heard : Bool) (s : Station) (t : List ℕ) where
-  pub steps-refused : (k : ℕ) → k ≡ rollRefusal roll n t → (k ≡ 0 → ⊥) → Steps (stepRefusal roll n s heard t) n s heard t (record { next = s; answer = Refused k }) t
+-- the turn of the record s in a row with this word: refused for its number, or turned
+module _ (word n : ℕ) (heard : Bool) (s : Station) (t : List ℕ) where
+  pub steps-refused : (k : ℕ) → k ≡ wordRefusal word n t → (k ≡ 0 → ⊥) → Steps (stepRefusal word n s heard t) n s heard t (record { next = s; answer = Refused k }) t
   unfolding stepRefusal stepTold stepLocks turnTold
   steps-refused k e ne =
       let m = ne-eqb k 0 ne in
       record { answer = rw (sym e, m, m); next = rw (sym e, m, m); locks = rw (sym e, m, m) }
 
-  pub steps-turned : rollRefusal roll n t ≡ 0 → (p : Step) (t′ : List ℕ) → Steps (early s heard) n s heard t p t′ → Steps (stepRefusal roll n s heard t) n s heard t p t′
+  pub steps-turned : wordRefusal word n t ≡ 0 → (p : Step) (t′ : List ℕ) → Steps (early s heard) n s heard t p t′ → Steps (stepRefusal word n s heard t) n s heard t p t′
   unfolding stepRefusal
   steps-turned z p t′ d = rw z d
 
@@ -138,16 +132,16 @@ module _ (n : ℕ) (heard : Bool) (xs : List Station) (t : List ℕ) where
     abbrev seat : ℕ
     seat = three (not (goodRow xs && soundRows locks (isIn xs) t)) (not (eqb n ANYBODY || isIn xs n)) (eqb n 0 || eqb n ANYBODY) 0
 
-    -- the roll refuses what the row refuses
-    roll-row : rollRefusal (rollOf xs) n t ≡ seat
-    unfolding rollRefusal rollOf unknown goodLocks
-    roll-row =
+    -- the word refuses what the row refuses
+    word-row : wordRefusal (rollOf xs .word) n t ≡ seat
+    unfolding wordRefusal rollOf unknown goodLocks
+    word-row =
         let same = bare-logged xs (good-is xs good .sized) in
         rw (good, same n, sound-same locks t (loggedIn (bareRecords (wordOf xs))) (isIn xs) same)
 
-    refusal-row : (s : Station) → stepRefusal (rollOf xs) n s heard t ≡ cond (eqb seat 0) (early s heard) seat
+    refusal-row : (s : Station) → stepRefusal (rollOf xs .word) n s heard t ≡ cond (eqb seat 0) (early s heard) seat
     unfolding stepRefusal
-    refusal-row s = rw roll-row
+    refusal-row s = rw word-row
 
     row-refusal : rowRefusal n heard xs t ≡ cond (eqb seat 0) (early (stationIn xs n) heard) seat
     unfolding rowRefusal
@@ -166,13 +160,13 @@ module _ (n : ℕ) (heard : Bool) (xs : List Station) (t : List ℕ) where
     row-own : rowRefusal n heard xs t ≡ 0 → at ≡ n
     row-own z = by-eq seat 0 seat-own (λ ne. absurd (ne (sym (row-refusal ∙ rw (ne-eqb seat 0 ne)) ∙ z)))
 
-    row-same : stepRefusal (rollOf xs) n (stationIn xs at) heard t ≡ rowRefusal n heard xs t
+    row-same : stepRefusal (rollOf xs .word) n (stationIn xs at) heard t ≡ rowRefusal n heard xs t
     row-same = refusal-row (stationIn xs at) ∙ by-eq seat 0
         (λ z. ap (λ (i : ℕ). cond (eqb seat 0) (early (stationIn xs i) heard) seat) (seat-own z))
         (λ ne. rw (ne-eqb seat 0 ne))
         ∙ sym row-refusal
 
-    pub row-steps : (p : Step) (t′ : List ℕ) → Steps (stepRefusal (rollOf xs) n (stationIn xs at) heard t) n (stationIn xs at) heard t p t′ → RowPolls n heard xs t (p .answer) (set xs at (p .next)) t′
+    pub row-steps : (p : Step) (t′ : List ℕ) → Steps (stepRefusal (rollOf xs .word) n (stationIn xs at) heard t) n (stationIn xs at) heard t p t′ → RowPolls n heard xs t (p .answer) (set xs at (p .next)) t′
     unfolding rowAfter stepTold stepLocks stationIn
     row-steps p t′ d₀ =
         let k = rowRefusal n heard xs t in

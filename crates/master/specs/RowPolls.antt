@@ -6,7 +6,6 @@ use mathlib.Core.List.{List, [], _∷_}
 use lib.Dec.{eqb}
 use lib.ListN.{set}
 use Rattle.rows.specs.Rows.{setRow}
-use Rattle.who.specs.declared.Roll.{Roll}
 use Rattle.who.specs.declared.Station.{Station}
 use Rattle.who.specs.Records.{flag, bytesOf}
 use Rattle.who.specs.Row.{vacant, stationIn, isIn, goodRow, bareRecords}
@@ -57,17 +56,17 @@ pub record RowPolls (n : ℕ) (heard : Bool) (xs : List Station) (t : List ℕ) 
   pub row : xs′ ≡ rowAfter n heard xs t
   pub locks : t′ ≡ stepLocks (rowRefusal n heard xs t) n (stationIn xs n) heard t
 
--- the refusals that a roll gives: 11, 2, 5
-unfoldable pub rollRefusal : Roll → ℕ → List ℕ → ℕ
-rollRefusal roll n t =
-    cond (not (roll .good && goodLocks (bareRecords (roll .word)) t)) 11
-    (cond (unknown n (bareRecords (roll .word))) 2
+-- the refusals beside a good row with this word of who is logged in: 11, 2, 5
+unfoldable pub wordRefusal : ℕ → ℕ → List ℕ → ℕ
+wordRefusal word n t =
+    cond (not (goodLocks (bareRecords word) t)) 11
+    (cond (unknown n (bareRecords word)) 2
     (cond (eqb n 0 || eqb n ANYBODY) 5
     0))
 
 -- the same and then 12, for the record s
-unfoldable pub stepRefusal : Roll → ℕ → Station → Bool → List ℕ → ℕ
-stepRefusal roll n s heard t = cond (eqb (rollRefusal roll n t) 0) (early s heard) (rollRefusal roll n t)
+unfoldable pub stepRefusal : ℕ → ℕ → Station → Bool → List ℕ → ℕ
+stepRefusal word n s heard t = cond (eqb (wordRefusal word n t) 0) (early s heard) (wordRefusal word n t)
 
 -- what the turn of one record gives and leaves, with refusal k
 pub record Steps (k n : ℕ) (s : Station) (heard : Bool) (t : List ℕ) (p : Step) (t′ : List ℕ) : Type 0 where

@@ -1,4 +1,4 @@
-// The master's entries: fresh tables, the check of the tables, and one frame at one number. The tables are lent; an answer
+// The master's entries: fresh tables, the check of the tables, one frame and one poll turn. The tables are lent; an answer
 // is an enum by value, and `told` (specs/Answers.antt) says what it tells.
 mod commands;
 mod poll;
@@ -116,7 +116,7 @@ pub fn poll_row(row: &mut [Station], locks: &mut [u8], number: u32, heard: bool)
         return Turned::Refused(11);
     }
     let at = poll::slot_of(number);
-    let polled = poll::poll_one(row[at], roll, number, heard, locks);
+    let polled = poll::poll_one(row[at], roll.word, number, heard, locks);
     row[at] = polled.next;
     polled.answer
 }

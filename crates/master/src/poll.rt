@@ -4,18 +4,17 @@ use crate::PolledRow;
 use crate::Step;
 use crate::Turned;
 use crate::refusals;
-use who::Roll;
 use who::Station;
 ghost use mathlib.Core.Path.{_≡_};
 ghost use mathlib.Core.Bool.{true, cond, not, _&&_, _||_};
 ghost use Prim.Native.Nat.{_*_, _<_};
 ghost use lib.Dec.{eqb, ltb};
 ghost use lib.ListN.{length};
+ghost use Rattle.rows.specs.Outcomes.{Leaves};
 ghost use Rattle.who.specs.Good.{goodCounts, numbers};
 ghost use Rattle.master.specs.Refusals.{ANYBODY, unknown};
 ghost use Rattle.master.specs.Polls.{withCounts};
-ghost use Rattle.master.specs.RowPolls.{early, rollRefusal, stepRefusal, Steps, RowPolls, isTurn, writtenBack};
-ghost use Rattle.rows.specs.Outcomes.{Leaves};
+ghost use Rattle.master.specs.RowPolls.{early, wordRefusal, stepRefusal, Steps, RowPolls, isTurn, writtenBack};
 
 // 2 or 5, or 0.
 fn seat_refusal(number: u32, records: &[u8]) -> u8
@@ -50,14 +49,11 @@ fn is_early(heard: bool, due: bool) -> bool
     false
 }
 
-// 11, 2 or 5, or 0.
-fn roll_refusal(roll: Roll, number: u32, locks: &[u8]) -> u8
-    ensures { λ r. ⌜ r ≡ rollRefusal roll number (now (locks .entry)) ⌝ }
+// 11 for the lock table, 2 or 5, or 0. The word says who is logged in.
+fn word_refusal(word: u64, number: u32, locks: &[u8]) -> u8
+    ensures { λ r. ⌜ r ≡ wordRefusal word number (now (locks .entry)) ⌝ }
 {
-    if !roll.good {
-        return 11;
-    }
-    let bare = who::lent::bare_records(roll.word);
+    let bare = who::lent::bare_records(word);
     if !locks::is_good(locks, &bare) {
         return 11;
     }
@@ -103,12 +99,12 @@ pub fn slot_of(number: u32) -> usize
     if at < who::NUMBERS { at } else { 0 }
 }
 
-// The turn of one record of a row with this roll: 11, 2, 5, 12, or the turn.
-pub fn poll_one(s: Station, roll: Roll, number: u32, heard: bool, locks: &mut [u8]) -> Step
+// The turn of one record of a good row with this word of who is logged in: 11, 2, 5, 12, or the turn.
+pub fn poll_one(s: Station, word: u64, number: u32, heard: bool, locks: &mut [u8]) -> Step
     requires { ⌜ goodCounts (s .misses) (s .slow) ≡ true ⌝ }
-    ensures { λ r. ⌜ Steps (stepRefusal roll number s heard (now (locks .entry))) number s heard (now (locks .entry)) r (now (locks .exit)) ⌝ }
+    ensures { λ r. ⌜ Steps (stepRefusal word number s heard (now (locks .entry))) number s heard (now (locks .entry)) r (now (locks .exit)) ⌝ }
 {
-    let refusal = roll_refusal(roll, number, locks);
+    let refusal = word_refusal(word, number, locks);
     if refusal != 0 {
         return Step {
             next: s,

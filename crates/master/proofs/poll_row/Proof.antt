@@ -31,7 +31,7 @@ use denote.Shadow.{pureI}
 use denote.Laws.{Is, shows}
 use denote.Memory.{pointee, shares}
 use denote.Plain.{uint-vals, uint-tells, uint-makes, uint-lawful, bool-vals, bool-tells, bool-makes}
-use denote.Builtin.{u8, u32, usize, bool}
+use denote.Builtin.{u8, u32, u64, usize, bool}
 use denote.Ref.{RefT}
 use denote.Slice.{sliceTy, sliceVal, MutSlice, ShrSlice, Room, finally, res-finally, heres, codedHoleys, at-slice, slice-vals, mut-slice-tells}
 use denote.Lend.{Held, lends-shr-slice}
@@ -175,7 +175,7 @@ module _ {M : Type 1} (𝓤 : URA M) (H : Heap 𝓤) (A : Atoms 𝓤) (W : Given
   elem = stationIn ys k
 
   abbrev Stepped : Step → List ℕ → Type 0
-  Stepped p t′ = Steps (stepRefusal rolled m elem y ts) m elem y ts p t′
+  Stepped p t′ = Steps (stepRefusal (rolled .word) m elem y ts) m elem y ts p t′
 
   abbrev Arg : Type 0
   Arg = RefT (List Station) × (RefT (List ℕ) × (ℕ × (Bool × Unit {0})))
@@ -224,14 +224,14 @@ module _ {M : Type 1} (𝓤 : URA M) (H : Heap 𝓤) (A : Atoms 𝓤) (W : Given
   goes-slot fits = qed W [] ∵ nothing ! $ owned ! u32 (Is u32) (uint-makes 𝓤 H A W w32) m _ (refl, fits) $ join ! $ nothing ! $ join ! $ nothing ! $ move ! (1 ∷ 0 ∷ []) $ frame ! $ done !
 
   abbrev to-one : One 𝓤 H A mem run .Ghost
-  to-one = (((κ₂, tt), (q₂, tt), tt, (elem, (rolled, (m, (y, (x₂, tt))))), (mach elem ∷ [], (machO rolled ∷ [], (vint w32 m ∷ [], (vbool y ∷ [], (s₂ ∷ [], tt)))))), tt)
+  to-one = (((κ₂, tt), (q₂, tt), tt, (elem, (rolled .word, (m, (y, (x₂, tt))))), (mach elem ∷ [], (vint w64 (rolled .word) ∷ [], (vint w32 m ∷ [], (vbool y ∷ [], (s₂ ∷ [], tt)))))), tt)
 
   goes-one : m < 2 ^ 32 → Is R elem (mach elem ∷ []) → Is O.the-row rolled (machO rolled ∷ []) → goodCounts (elem .misses) (elem .slow) ≡ true
       → ent 𝓤 (sep 𝓤 (sep 𝓤 (A .lft κ₂ q₂) (sem 𝓤 H A ftrue)) (sem 𝓤 H A (MutSlice (named 0) κ₂ u8 .own x₂ (s₂ ∷ [])))) (One 𝓤 H A mem run .pre to-one)
   goes-one fits is is-o counts =
       qed W ((‵ (flft κ₂ q₂) ⊛ ‵ ftrue) ∷ ‵ (MutSlice (named 0) κ₂ u8 .own x₂ (s₂ ∷ [])) ∷ []) ∵ says ! counts $ frame ! $
       nothing ! $ move ! (1 ∷ 0 ∷ []) $ fjoin ! $ owned ! bool (Is bool) (bool-makes 𝓤 H A W) y _ refl $ fjoin ! $ owned ! u32 (Is u32) (uint-makes 𝓤 H A W w32) m _ (refl, fits) $ fjoin ! $
-      owned ! O.the-row (Is O.the-row) (LL.makes O.the-type O′.the-plain 𝓤 H A) rolled _ is-o $ fjoin ! $ owned ! R (Is R) (LL.makes T.the-type T′.the-plain 𝓤 H A) elem _ is $ fjoin ! $ done !
+      owned ! u64 (Is u64) (uint-makes 𝓤 H A W w64) (rolled .word) _ (LL.owed O.the-type O′.the-laws rolled _ is-o .1 .0) $ fjoin ! $ owned ! R (Is R) (LL.makes T.the-type T′.the-plain 𝓤 H A) elem _ is $ fjoin ! $ done !
 
   module _ (C : Calls 𝓤 H) (Λ : Loops 𝓤 H) (fm : FmC 𝓤 H (W .laws) C) (known-call : Triple 𝓤 (C #who·roll-call) (Call 𝓤 H A mem run)) (known-slot : Triple 𝓤 (C #master·slot-of) (Slot 𝓤 H A mem run)) (known-one : Triple 𝓤 (C #master·poll-one) (One 𝓤 H A mem run)) (room : Room R (length ys)) (room₂ : Room u8 (length ts)) (fits : m < 2 ^ 32) where
     module _ (l₀ l₁ l₂ l₃ l₄ l₅ l₆ l₇ l₈ l₉ l₁₀ l₁₁ l₁₂ l₁₃ l₁₄ l₁₅ l₁₆ : ℕ) where
@@ -285,9 +285,9 @@ module _ {M : Type 1} (𝓤 : URA M) (H : Heap 𝓤) (A : Atoms 𝓤) (W : Given
           assigns ! (agg ! (and-then ! (load ! (from ! (stop !)) (look ! 12 refl)) (and-then ! (load ! (from ! (fld ! refl (stop !))) (look-in ! 36 (sub ! 1 refl (whole !)))) (no-more !)))) (from ! (stop !)) (init ! 10 refl (tt, (tt, (record { fits = room₂ .0 }, tt)))) $
           -- `poll_one`, which is given the locks: [pre; row[k]; what it owns; the others; the open borrow; obs; auth; _16 (7); …; _15 (9); …; _13 (13); …; _5 (29); …; _4 (31); …; _3 (33); …]
           nothing ! $ move ! (7 ∷ 0 ∷ 8 ∷ []) $ join ! $ use2 W (raw (One 𝓤 H A mem run .pre to-one)) (goes-one fits is is-o (station-counts k elem (good-is ys good .each k (slot-below m)))) $
-          calls-at ! fm (One 𝓤 H A mem run) known-one to-one (and-then ! (load ! (from ! (stop !)) (look ! 13 refl)) (and-then ! (load ! (from ! (stop !)) (look ! 29 refl)) (and-then ! (load ! (from ! (stop !)) (look ! 33 refl)) (and-then ! (load ! (from ! (stop !)) (look ! 31 refl)) (and-then ! (load ! (from ! (stop !)) (look ! 9 refl)) (no-more !)))))) (λ w.
-          use1 W (later (some (λ (p : Step). ((‵ (flft κ₂ q₂) ⊛ ‵ ftrue) ⊛ ‵ (U.the-row .own p (w ∷ []))) ⊛ raw (ensured 𝓤 H A one.ended (one.clauses 𝓤 H A mem run) (κ₂, tt) (elem, (rolled, (m, (y, (x₂, tt))))) tt p)))) (id⊢ 𝓤 _) $ await ! tt $ pick ! (λ p.
-          split ! $ move ! (1 ∷ []) $ use1 W (some (λ (ws : Unit {0} × (Unit {0} × (Unit {0} × (Unit {0} × (List ℕ × Unit {0}))))). ‵ (lasts one.ended (κ₂, tt) (elem, (rolled, (m, (y, (x₂, tt))))) ws) ⊛ raw (fact 𝓤 (Stepped p (ws .1 .1 .1 .1 .0))))) (id⊢ 𝓤 _) $ pick ! (λ ws.
+          calls-at ! fm (One 𝓤 H A mem run) known-one to-one (and-then ! (load ! (from ! (stop !)) (look ! 13 refl)) (and-then ! (load ! (from ! (fld ! refl (stop !))) (look-in ! 29 (sub ! 1 refl (whole !)))) (and-then ! (load ! (from ! (stop !)) (look ! 33 refl)) (and-then ! (load ! (from ! (stop !)) (look ! 31 refl)) (and-then ! (load ! (from ! (stop !)) (look ! 9 refl)) (no-more !)))))) (λ w.
+          use1 W (later (some (λ (p : Step). ((‵ (flft κ₂ q₂) ⊛ ‵ ftrue) ⊛ ‵ (U.the-row .own p (w ∷ []))) ⊛ raw (ensured 𝓤 H A one.ended (one.clauses 𝓤 H A mem run) (κ₂, tt) (elem, (rolled .word, (m, (y, (x₂, tt))))) tt p)))) (id⊢ 𝓤 _) $ await ! tt $ pick ! (λ p.
+          split ! $ move ! (1 ∷ []) $ use1 W (some (λ (ws : Unit {0} × (Unit {0} × (Unit {0} × (Unit {0} × (List ℕ × Unit {0}))))). ‵ (lasts one.ended (κ₂, tt) (elem, (rolled .word, (m, (y, (x₂, tt))))) ws) ⊛ raw (fact 𝓤 (Stepped p (ws .1 .1 .1 .1 .0))))) (id⊢ 𝓤 _) $ pick ! (λ ws.
           split ! $ move ! (1 ∷ []) $ heard ! (Stepped p (ws .1 .1 .1 .1 .0)) (λ e. fsplit ! $ drop ! $ fsplit ! $ drop ! $ fsplit ! $ drop ! $ fsplit ! $ drop ! $ fsplit ! $ fsplit ! $ move ! (1 ∷ []) $ feqL ! (λ long.
           move ! (1 ∷ []) $ drop ! $ move ! (1 ∷ []) $ split ! $ split ! $ move ! (1 ∷ []) $ drop ! $ move ! (1 ∷ []) $ peeks ! U.the-row (Is U.the-row) (shows 𝓤 H A U.the-row) p (w ∷ []) (λ is′. drop ! $ move ! (2 ∷ 3 ∷ 4 ∷ 5 ∷ 6 ∷ 7 ∷ []) $
           -- [row[k]; what it owns; the others; the open borrow; obs; auth; the locks' token; their last list; _16 (8); …], as before the call

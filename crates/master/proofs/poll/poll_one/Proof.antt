@@ -1,4 +1,4 @@
-use Rattle.master.proofs.RowPollLaws.{roll-seated, steps-refused, steps-turned}
+use Rattle.master.proofs.RowPollLaws.{word-seated, steps-refused, steps-turned}
 use native.Mathlib.Omega.{arith}
 use mathlib.Core.Path.{sym, _∙_}
 use denote.Ref.{now}
@@ -6,17 +6,17 @@ use borrow.Author.Needs.{needs}
 use Rattle.master.proofs.poll.poll_one.Statement.{statement}
 use Rattle.master.proofs.poll.poll_one.Tie as tie
 
-roll-refusal-requires : tie.Need-roll-refusal-requires
-roll-refusal-requires c κs = search needs
+word-refusal-requires : tie.Need-word-refusal-requires
+word-refusal-requires c κs = search needs
 
 same-length : tie.Need-same-length
 same-length c = search needs
 
 returns : tie.Need-returns
-returns c = steps-refused _ _ _ _ _ _ (c .before .roll-refusal .ensures) (c .if1 .taken)
+returns c = steps-refused _ _ _ _ _ _ (c .before .word-refusal .ensures) (c .if1 .taken)
 
 cast-turn-one : tie.Need-cast-turn-one
-cast-turn-one c = omega (arith, roll-seated (c .before .before .before .before .args .roll) (c .before .before .before .before .args .number) (now (c .before .before .before .before .args .locks)) (sym (c .before .roll-refusal .ensures) ∙ c .if1 .left))
+cast-turn-one c = omega (arith, word-seated (c .before .before .before .before .args .word) (c .before .before .before .before .args .number) (now (c .before .before .before .before .args .locks)) (sym (c .before .word-refusal .ensures) ∙ c .if1 .left))
 
 turn-one-requires : tie.Need-turn-one-requires
 turn-one-requires c κs = search needs
@@ -25,13 +25,13 @@ same-length-2 : tie.Need-same-length-2
 same-length-2 c = search needs
 
 returns-2 : tie.Need-returns-2
-returns-2 c = steps-turned _ _ _ _ _ (sym (c .before .before .before .before .before .roll-refusal .ensures) ∙ c .before .before .before .before .if1 .left) _ _ (c .before .before .turn-one .ensures)
+returns-2 c = steps-turned _ _ _ _ _ (sym (c .before .before .before .before .before .word-refusal .ensures) ∙ c .before .before .before .before .if1 .left) _ _ (c .before .before .turn-one .ensures)
 
 pub poll-one-spec : {M : Type 1} → statement M
 poll-one-spec =
     tie.close
     (tie.spec
-    roll-refusal-requires
+    word-refusal-requires
     same-length
     returns
     cast-turn-one
