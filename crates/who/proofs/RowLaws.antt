@@ -1,4 +1,4 @@
--- The laws of a row of records: its roll, what a good row says of each record, and who is logged in by the bare records.
+-- The laws of a row of records: its roll, its rules as facts, who is logged in by the bare records, and the row that stands in bytes, which keeps the rules where they do.
 use Prim.Native.Nat.{ℕ, zero, suc, _+_, _*_, _^_, _≤_, _<_}
 use native.Mathlib.Nat.{add-zero, pow-suc, not-suc-le-zero, le-of-suc-le-suc}
 use native.Mathlib.Omega.{arith}
