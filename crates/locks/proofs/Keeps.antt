@@ -7,7 +7,6 @@ use mathlib.Core.List.{List}
 use lib.Dec.{eqb}
 use lib.ListN.{length}
 use borrow.Author.Tests.{eqb-false, not-true}
-use Rattle.rows.specs.Words.{any}
 use Rattle.rows.specs.Rows.{row, copies}
 use Rattle.rows.proofs.BoolLaws.{by-test, by-eq, both, and-left, and-right}
 use Rattle.rows.proofs.IndexLaws.{none-from}

@@ -9,7 +9,6 @@ use lib.ListN.{length, getD}
 use borrow.Author.Tests.{eqb-true, eq-eqb, ne-eqb, ltb-true, not-false}
 use Rattle.rows.proofs.BoolLaws.{by-test, by-eq, both, and-left, and-right}
 use Rattle.rows.proofs.RowLaws.{length-part}
-use Rattle.rows.specs.Rows.{part}
 use Rattle.rows.specs.Numbers.{lowFirst}
 use Rattle.terms.specs.declared.LockString.{LockString}
 use Rattle.frames.specs.declared.Request.{Request}

@@ -1,6 +1,6 @@
 -- The refusals of a frame, in order: 11, 10, then 1 to 9. n is the number polled, f the frame, s the site file, t and w the tables.
 use Prim.Native.Nat.{ℕ}
-use mathlib.Core.Bool.{Bool, true, false, cond, not, _&&_, _||_}
+use mathlib.Core.Bool.{Bool, cond, not, _&&_, _||_}
 use mathlib.Core.List.{List}
 use lib.Dec.{eqb}
 use lib.ListN.{length, getD}

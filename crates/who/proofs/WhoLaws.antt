@@ -12,7 +12,7 @@ use Rattle.rows.proofs.BoolLaws.{by-test, by-eq, both, and-left, and-right, and
 use Rattle.rows.proofs.IndexLaws.{first-least, all-at, all-from, first-found, first-none, found-if, missing-if}
 use Rattle.rows.proofs.BuildLaws.{same-is, same-refl}
 use Rattle.rows.proofs.RowLaws.{copies-front, row-copies, getD-part, over-first, length-copies, length-setRow, row-setRow, row-setRow-other}
-use Rattle.rows.specs.Words.{all, any, first, same}
+use Rattle.rows.specs.Words.{all, first, same}
 use Rattle.rows.specs.Rows.{put, over, copies, row, setRow}
 use Rattle.who.specs.declared.Station.{Station}
 use Rattle.who.specs.Records.{bytesOf, nobody, localUser}

@@ -1,6 +1,6 @@
 -- One poll turn, on plain numbers: is the station due, and what becomes of its misses and slow turns.
 use Prim.Native.Nat.{ℕ, _+_}
-use mathlib.Core.Bool.{Bool, cond, not, _&&_, _||_}
+use mathlib.Core.Bool.{Bool, cond, _||_}
 use lib.Dec.{eqb, ltb}
 use Rattle.who.specs.declared.Turn.{Turn}
 

@@ -1,7 +1,6 @@
 use Rattle.locks.proofs.LockRowLaws.{row-laid}
-use Rattle.terms.specs.Strings.{normal}
 use Rattle.terms.specs.declared.LockString.{LockString}
-use Rattle.rows.specs.Rows.{put, over}
+use Rattle.rows.specs.Rows.{over}
 use Rattle.locks.specs.Row.{rowOf}
 use Rattle.rows.proofs.RowLaws.{over-first, over-next}
 use lib.ListN.{length, replicate}
