@@ -96,9 +96,7 @@ fn with_string(command: Command, frame: &[u8]) -> Request
     requires { ⌜ 15 ≤ length (now frame) ⌝ }
     ensures { λ r. ⌜ r ≡ stringIn command (now (frame .entry)) ⌝ }
 {
-    let len = frame[1];
-    let bytes = rows::thirteen_of(frame, 2);
-    let string = LockString { len, bytes };
+    let string = terms::string_at(frame, 1);
     let mut q = plain(command);
     q.string = string;
     q

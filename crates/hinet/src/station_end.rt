@@ -9,10 +9,7 @@ ghost use Rattle.hinet.specs.StationEntries.{Freshly, Locks, Unlocks, Cl
 fn string_of(lockstring: &[u8; 14]) -> LockString
     ensures { λ s. ⌜ s ≡ stringIn (now (lockstring .entry)) ⌝ }
 {
-    LockString {
-        len: lockstring[0],
-        bytes: rows::thirteen_of(lockstring, 1),
-    }
+    terms::string_at(lockstring, 0)
 }
 
 // An empty list, and no reply awaited: 11 for another size.

@@ -1,21 +1,21 @@
 -- The laws of one row of the lock table.
-use Prim.Native.Nat.{ℕ, _+_, _-_, _≤_}
+use Prim.Native.Nat.{ℕ, _+_, _-_, _*_, _≤_}
 use native.Mathlib.Omega.{arith}
 use mathlib.Core.Path.{_≡_, refl, sym, ap, _∙_}
 use mathlib.Core.Bool.{Bool, true, false, not, _&&_, and-true, and-false}
 use mathlib.Core.List.{List, [], _∷_, _++_, append-assoc}
-use lib.Dec.{eqb}
+use lib.Dec.{eqb, lit≤}
 use lib.ListN.{length, take, drop, replicate, length-append, length-replicate}
 use lib.Seq.{take-at, take-all, drop-at, drop-drop, drop-append-le}
 use borrow.Author.Tests.{ne-eqb, not-true}
 use Rattle.rows.specs.Words.{all, zeros, zeroAt}
-use Rattle.rows.specs.Rows.{part, over}
+use Rattle.rows.specs.Rows.{part, row, over}
 use Rattle.rows.proofs.BoolLaws.{by-test, and-left, and-right}
 use Rattle.rows.proofs.BuildLaws.{is-zeros, drop-zeros}
 use Rattle.rows.proofs.RowLaws.{length-part}
 use Rattle.terms.specs.declared.LockString.{LockString}
-use Rattle.terms.specs.Strings.{legal, key, sameString, normal}
-use Rattle.terms.proofs.StringLaws.{legal-len, legal-same, normal-is-same, length-key, length-normal, same-string-normal, same-string-right}
+use Rattle.terms.specs.Strings.{stringAt, legal, key, sameString, normal}
+use Rattle.terms.proofs.StringLaws.{string-inside, legal-len, legal-same, normal-is-same, length-key, length-normal, same-string-normal, same-string-right}
 use Rattle.who.specs.Logins.{loggedIn}
 use Rattle.locks.specs.Row.{owner, stringOf, freeRow, isFree, rowOf, holds, freed}
 use Rattle.locks.specs.Good.{soundRow, goodRow}
@@ -23,6 +23,11 @@ use Rattle.locks.specs.Good.{soundRow, goodRow}
 -- a row made of its owner, its length and its string over sixteen zeros
 pub row-laid : (who len : ℕ) (b : List ℕ) → length b ≡ 13 → over (who ∷ len ∷ b) (replicate 16 0) ≡ who ∷ len ∷ (b ++ (0 ∷ []))
 row-laid who len b h = rw h
+
+-- the string of row i
+pub row-string : (t : List ℕ) (i : ℕ) → stringAt t (16 * i + 1) ≡ stringOf (row 16 t i)
+unfolding stringOf stringAt
+row-string t i = sym (string-inside t (16 * i) 16 1 (lit≤ tt))
 
 -- the string of a row has thirteen bytes
 pub string-full : (r : List ℕ) → length r ≡ 16 → length (stringOf r .bytes) ≡ 13

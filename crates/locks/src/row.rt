@@ -30,13 +30,10 @@ pub fn string_of(table: &[u8], i: usize) -> LockString
     requires { ⌜ 16 * i + 16 ≤ length (now table) ⌝ }
     ensures { λ s. ⌜ s ≡ stringOf (rowAt 16 (now (table .entry)) i) ⌝ }
 {
-    let at = ROW * i;
-    let len = table[at + 1];
-    let bytes = rows::thirteen_of(table, at + 2);
-    LockString { len, bytes }
+    terms::string_at(table, ROW * i + 1)
 }
 
-// Row i is used and holds s: owner, length and last byte are tested before the string is read out.
+// Row i is used and holds s.
 fn holds(table: &[u8], i: usize, s: LockString) -> bool
     requires { ⌜ 16 * i + 16 ≤ length (now table) ⌝ }
     ensures { λ r. ⌜ r ≡ holdsAt (now (table .entry)) s i ⌝ }
@@ -44,13 +41,7 @@ fn holds(table: &[u8], i: usize, s: LockString) -> bool
     if is_free(table, i) {
         return false;
     }
-    if table[ROW * i + 1] != s.len {
-        return false;
-    }
-    if !terms::ends_as(rows::part(table, ROW * i + 2, 13), s) {
-        return false;
-    }
-    terms::same_string(string_of(table, i), s)
+    terms::is_string_at(table, ROW * i + 1, s)
 }
 
 // The first of n rows that holds s, or n.

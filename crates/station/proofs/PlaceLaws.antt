@@ -5,7 +5,7 @@ use native.Mathlib.Omega.{arith}
 use mathlib.Core.Path.{_≡_, refl, sym, ap, _∙_}
 use mathlib.Core.Bool.{Bool, true, false, not, _&&_}
 use mathlib.Core.List.{List, _∷_}
-use lib.Dec.{eqb, lit<}
+use lib.Dec.{eqb, lit<, lit≤}
 use lib.ListN.{length, take, getD, replicate, length-replicate}
 use lib.Seq.{take-all, drop-drop}
 use borrow.Author.Tests.{ne-eqb, not-true}
@@ -15,14 +15,19 @@ use Rattle.rows.proofs.BoolLaws.{and-left, and-right}
 use Rattle.rows.proofs.BuildLaws.{is-zeros}
 use Rattle.rows.proofs.RowLaws.{getD-part}
 use Rattle.terms.specs.declared.LockString.{LockString}
-use Rattle.terms.specs.Strings.{legal, sameString, normal}
-use Rattle.terms.proofs.StringLaws.{legal-len, legal-same, same-string-right, length-normal, normal-is-same, normal-rest}
+use Rattle.terms.specs.Strings.{stringAt, legal, sameString, normal}
+use Rattle.terms.proofs.StringLaws.{string-inside, legal-len, legal-same, same-string-right, length-normal, normal-is-same, normal-rest}
 use Rattle.station.specs.State.{stringIn, unused, listedAt}
 use Rattle.station.specs.Good.{goodPlace}
 
 -- the length in place i
 pub place-length : (l : List ℕ) (i : ℕ) → getD (row 14 l i) 0 0 ≡ getD l (14 * i) 0
 place-length l i = getD-part l (14 * i) 14 0 (lit< tt) ∙ ap (λ (k : ℕ). getD l k 0) (add-zero _)
+
+-- the string in a place
+pub place-string : (l : List ℕ) (i : ℕ) → stringAt l (14 * i) ≡ stringIn (row 14 l i)
+unfolding stringIn stringAt
+place-string l i = ap (stringAt l) (sym (add-zero (14 * i))) ∙ sym (string-inside l (14 * i) 14 0 (lit≤ tt))
 
 -- a place that holds x
 pub record Holds (l : List ℕ) (x : LockString) (i : ℕ) : Type 0 where

@@ -124,9 +124,7 @@ fn asked(state: &[u8]) -> LockString
     requires { ⌜ length (now state) ≡ stateLength ⌝ }
     ensures { λ s. ⌜ s ≡ askedIn (waitOf (now (state .entry))) ⌝ }
 {
-    let len = state[LIST + 1];
-    let bytes = rows::thirteen_of(state, LIST + 2);
-    LockString { len, bytes }
+    terms::string_at(state, LIST + 1)
 }
 
 fn command_of(code: u8) -> Command

@@ -17,10 +17,7 @@ pub fn string_at(list: &[u8], i: usize) -> LockString
     requires { ⌜ 14 * i + 14 ≤ length (now list) ⌝ }
     ensures { λ s. ⌜ s ≡ stringIn (row 14 (now (list .entry)) i) ⌝ }
 {
-    let at = PLACE * i;
-    let len = list[at];
-    let bytes = rows::thirteen_of(list, at + 1);
-    LockString { len, bytes }
+    terms::string_at(list, PLACE * i)
 }
 
 // Place i is unused.
@@ -31,7 +28,7 @@ pub fn is_unused(list: &[u8], i: usize) -> bool
     list[PLACE * i] == 0
 }
 
-// Place i holds s: length and last byte are tested before the string is read out.
+// Place i holds s.
 fn holds(list: &[u8], i: usize, s: LockString) -> bool
     requires { ⌜ 14 * i + 14 ≤ length (now list) ⌝ }
     ensures { λ r. ⌜ r ≡ listedAt (now (list .entry)) s i ⌝ }
@@ -39,13 +36,7 @@ fn holds(list: &[u8], i: usize, s: LockString) -> bool
     if is_unused(list, i) {
         return false;
     }
-    if list[PLACE * i] != s.len {
-        return false;
-    }
-    if !terms::ends_as(rows::part(list, PLACE * i + 1, 13), s) {
-        return false;
-    }
-    terms::same_string(string_at(list, i), s)
+    terms::is_string_at(list, PLACE * i, s)
 }
 
 // The first of n places that holds s, or n.

@@ -1,5 +1,5 @@
 -- The laws of lock strings. Two strings are the same exactly when their normal forms are equal.
-use Prim.Native.Nat.{ℕ, min, _-_, _≤_}
+use Prim.Native.Nat.{ℕ, min, _+_, _-_, _≤_}
 use native.Mathlib.Omega.{arith}
 use mathlib.Core.Path.{_≡_, refl, sym, ap, _∙_}
 use mathlib.Core.Bool.{true, false, _&&_}
@@ -10,17 +10,24 @@ use lib.Seq.{getD-take, take-at, take-all, drop-at}
 use borrow.Author.Tests.{eqb-true, eq-eqb, ne-eqb, leb-true, leb-false}
 use Rattle.rows.proofs.BoolLaws.{by-test, by-eq, contra, and-left, and-right, and-both}
 use Rattle.rows.proofs.BuildLaws.{same-is, same-refl, drop-zeros}
-use Rattle.rows.proofs.RowLaws.{length-over}
+use Rattle.rows.proofs.RowLaws.{getD-part, part-part, length-over}
 use Rattle.rows.specs.Words.{same}
-use Rattle.rows.specs.Rows.{over}
+use Rattle.rows.specs.Rows.{part, over}
 use Rattle.terms.specs.declared.LockString.{LockString}
-use Rattle.terms.specs.Strings.{legal, key, sameString, endsAs, normal}
+use Rattle.terms.specs.Strings.{stringAt, legal, key, sameString, endsAs, normal}
 
 -- a legal length
 pub legal-len : (s : LockString) → legal s ≡ true → (1 ≤ s .len) × (s .len ≤ 13)
 unfolding legal
 legal-len s l =
     (leb-true 1 (s .len) (and-left (leb 1 (s .len)) (leb (s .len) 13) l), leb-true (s .len) 13 (and-right (leb 1 (s .len)) (leb (s .len) 13) l))
+
+-- the string that stands in a part stands in the whole
+pub string-inside : (l : List ℕ) (from w at : ℕ) → at + 14 ≤ w → stringAt (part l from w) at ≡ stringAt l (from + at)
+unfolding stringAt
+string-inside l from w at h =
+    let next : from + (at + 1) ≡ from + at + 1 = omega arith in
+    rw (getD-part l from w at (omega arith), part-part l from w (at + 1) 13 (omega arith), next)
 
 -- how long the first length bytes are
 pub length-key : (s : LockString) → length (key s) ≡ min (s .len) (length (s .bytes))

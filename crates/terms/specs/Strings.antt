@@ -1,12 +1,16 @@
 -- Lock strings: when one is legal, when two are the same, and the form with zeros after the string.
-use Prim.Native.Nat.{ℕ, min, _-_}
+use Prim.Native.Nat.{ℕ, min, _+_, _-_}
 use mathlib.Core.Bool.{Bool, _&&_, _||_}
 use mathlib.Core.List.{List}
 use lib.Dec.{eqb, leb}
 use lib.ListN.{getD, take, replicate}
 use Rattle.rows.specs.Words.{same}
-use Rattle.rows.specs.Rows.{over}
+use Rattle.rows.specs.Rows.{part, over}
 use Rattle.terms.specs.declared.LockString.{LockString}
+
+-- the string that stands in bytes, its length first
+unfoldable pub stringAt : List ℕ → ℕ → LockString
+stringAt l at = record { len = getD l at 0; bytes = part l (at + 1) 13 }
 
 -- length 1 to 13
 unfoldable pub legal : LockString → Bool

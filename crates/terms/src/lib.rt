@@ -1,10 +1,10 @@
 // The terms of the rules as types. Volume, partition, track and sector are four types, so that none can be passed where
 // another is due. A lock string travels by value, as thirteen bytes beside its length.
 ghost use mathlib.Core.Path.{_≡_};
-ghost use Prim.Native.Nat.{min};
+ghost use Prim.Native.Nat.{_+_, _≤_, min};
 ghost use Rattle.rows.specs.Outcomes.{Gives};
 ghost use lib.ListN.{length};
-ghost use Rattle.terms.specs.Strings.{legal, sameString, endsAs, normal as normalOf};
+ghost use Rattle.terms.specs.Strings.{legal, stringAt, sameString, endsAs, normal as normalOf};
 
 pub struct Volume(pub u8);
 
@@ -64,9 +64,8 @@ pub fn same_string(a: LockString, b: LockString) -> bool
     rows::is_same(&x[..n], &y[..n])
 }
 
-// These thirteen bytes, taken as a string as long as s, end as s does. Records of one file mostly differ in their last
-// byte, so that this tells two strings apart before either is read out.
-pub fn ends_as(bytes: &[u8], s: LockString) -> bool
+// These thirteen bytes, taken as a string as long as s, end as s does.
+fn ends_as(bytes: &[u8], s: LockString) -> bool
     requires { ⌜ length (now bytes) ≡ 13 ⌝ }
     ensures { λ r. ⌜ r ≡ endsAs (now (bytes .entry)) s ⌝ }
 {
@@ -76,6 +75,32 @@ pub fn ends_as(bytes: &[u8], s: LockString) -> bool
     }
     let own = s.bytes;
     bytes[n - 1] == own[n - 1]
+}
+
+// The string that stands at `at`, its length first, by value.
+pub fn string_at(bytes: &[u8], at: usize) -> LockString
+    requires { ⌜ at + 14 ≤ length (now bytes) ⌝ }
+    ensures { λ s. ⌜ s ≡ stringAt (now (bytes .entry)) at ⌝ }
+{
+    LockString {
+        len: bytes[at],
+        bytes: rows::thirteen_of(bytes, at + 1),
+    }
+}
+
+// That string and s are one. Records of one file mostly differ in their last byte, so that length and last byte are tested
+// before the string is read out.
+pub fn is_string_at(bytes: &[u8], at: usize, s: LockString) -> bool
+    requires { ⌜ at + 14 ≤ length (now bytes) ⌝ }
+    ensures { λ r. ⌜ r ≡ sameString (stringAt (now (bytes .entry)) at) s ⌝ }
+{
+    if bytes[at] != s.len {
+        return false;
+    }
+    if !ends_as(rows::part(bytes, at + 1, 13), s) {
+        return false;
+    }
+    same_string(string_at(bytes, at), s)
 }
 
 // The string with zeros after its length.

@@ -1,33 +1,21 @@
-use Rattle.locks.specs.Row.{stringOf}
-use Rattle.rows.proofs.RowLaws.{getD-part, part-part}
+use Rattle.locks.proofs.LockRowLaws.{row-string}
 use denote.Ref.{now}
-use lib.Dec.{lit<, lit≤}
-use Prim.Native.Nat.{_*_}
+use mathlib.Core.Path.{_∙_}
 use borrow.Author.Needs.{needs}
 use Rattle.locks.proofs.row.string_of.Statement.{statement}
 use Rattle.locks.proofs.row.string_of.Tie as tie
 
-mul-at : tie.Need-mul-at
-mul-at c = search needs
+mul-string-at : tie.Need-mul-string-at
+mul-string-at c = search needs
 
-add-len : tie.Need-add-len
-add-len c = search needs
+add-string-at : tie.Need-add-string-at
+add-string-at c = search needs
 
-shared-slice-read-len : tie.Need-shared-slice-read-len
-shared-slice-read-len c = search needs
-
-add-thirteen-of : tie.Need-add-thirteen-of
-add-thirteen-of c = search needs
-
-thirteen-of-requires : tie.Need-thirteen-of-requires
-thirteen-of-requires c κs = search needs
+string-at-requires : tie.Need-string-at-requires
+string-at-requires c κs = search needs
 
 returns : tie.Need-returns
-unfolding stringOf
-returns c = let a = c .before .before .before .args in
-    rw (getD-part (now (a .table)) (16 * a .i) 16 1 (lit< tt), part-part (now (a .table)) (16 * a .i) 16 2 13 (lit≤ tt), c .thirteen-of .ensures)
+returns c = let a = c .before .before .args in c .string-at .ensures ∙ row-string (now (a .table)) (a .i)
 
 pub string-of-spec : {M : Type 1} → statement M
-string-of-spec =
-    tie.close
-    (tie.spec mul-at add-len shared-slice-read-len add-thirteen-of thirteen-of-requires returns)
+string-of-spec = tie.close (tie.spec mul-string-at add-string-at string-at-requires returns)
