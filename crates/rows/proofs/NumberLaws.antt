@@ -2,17 +2,17 @@
 use Prim.Native.Nat.{ℕ, zero, suc, _+_, _*_, _/_, _%_, _^_, _≤_, _<_}
 use native.Mathlib.Omega.{arith}
 use native.Mathlib.Nat.{pow-suc, pow-succ', mul-assoc, add-zero}
-use mathlib.Core.Path.{_≡_, refl, sym, ap, _∙_}
+use mathlib.Core.Path.{_≡_, refl, sym, ap, ap₂, _∙_}
 use mathlib.Core.List.{List, [], _∷_, _++_}
-use lib.Dec.{ltb, lit<}
+use lib.Dec.{ltb, eqb, lit<}
 use lib.ListN.{length, drop, getD, length-drop, List·getD-eq-default}
 use lib.Seq.{take-add, drop-drop, length-take-le}
-use borrow.Author.Tests.{ltb-true, ltb-false}
-use Rattle.rows.proofs.BoolLaws.{by-test}
-use Rattle.rows.specs.Words.{build}
+use borrow.Author.Tests.{ltb-true, ltb-false, eqb-true, eq-eqb}
+use Rattle.rows.proofs.BoolLaws.{by-test, iff}
+use Rattle.rows.specs.Words.{build, same}
 use Rattle.rows.specs.Rows.{part}
 use Rattle.rows.specs.Numbers.{lowFirst, lowBytes}
-use Rattle.rows.proofs.BuildLaws.{build-list}
+use Rattle.rows.proofs.BuildLaws.{build-list, same-is, same-refl}
 use Rattle.rows.proofs.RowLaws.{length-part, getD-part}
 
 pub length-lowBytes : (n x : ℕ) → length (lowBytes n x) ≡ n
@@ -52,13 +52,25 @@ part-back l at n b h =
         (λ y. rw (getD-part l at n i (ltb-true i n y)) (b (at + i)))
         (λ f. rw (List·getD-eq-default (part l at n) 0 {n = i} (omega (arith, length-part l at n h, ltb-false i n f))) (lit< tt))
 
+-- as many bytes hold the same number just where they are the same
+pub same-low : (a b : List ℕ) → Bytes a → Bytes b → length a ≡ length b → eqb (lowFirst a) (lowFirst b) ≡ same a b
+same-low a b small-a small-b long = iff (eqb (lowFirst a) (lowFirst b)) (same a b)
+    (λ y. rw (sym (bytes-back a small-a) ∙ ap₂ lowBytes long (eqb-true (lowFirst a) (lowFirst b) y) ∙ bytes-back b small-b) (same-refl b))
+    (λ y. eq-eqb (lowFirst a) (lowFirst b) (ap lowFirst (same-is a b y)))
+
 -- the number in one part and a further one
 low-append : (a b : List ℕ) → lowFirst (a ++ b) ≡ lowFirst a + 256 ^ length a * lowFirst b
 unfolding lowFirst
 low-append [] b = omega arith
 low-append (x ∷ a) b = rw (low-append a b, pow-succ') (omega (arith, mul-assoc 256 (256 ^ length a) (lowFirst b)))
 
--- the number in two bytes, and in four
+-- the number in a part is that of its first n bytes and of the m after them
+low-parts : (l : List ℕ) (at n m : ℕ) → at + (n + m) ≤ length l → lowFirst (part l at (n + m)) ≡ lowFirst (part l at n) + 256 ^ n * lowFirst (part l (at + n) m)
+unfolding part
+low-parts l at n m h =
+    rw (take-add n m (drop at l), low-append, drop-drop, length-take-le n (drop at l) (simp length-drop (omega arith)))
+
+-- the number in two bytes, in four, and in eight
 module _ (l : List ℕ) (at : ℕ) where
   pub two-bytes : at + 2 ≤ length l → part l at 2 ≡ getD l at 0 ∷ getD l (at + 1) 0 ∷ []
   unfolding build
@@ -71,6 +83,7 @@ module _ (l : List ℕ) (at : ℕ) where
   two-low h = rw (two-bytes h) (omega arith)
 
   pub four-low : at + 4 ≤ length l → lowFirst (part l at 4) ≡ lowFirst (part l at 2) + 65536 * lowFirst (part l (at + 2) 2)
-  unfolding part
-  four-low h =
-      rw (take-add 2 2 (drop at l), low-append, drop-drop, length-take-le 2 (drop at l) (simp length-drop (omega arith)))
+  four-low h = low-parts l at 2 2 h
+
+  pub eight-low : at + 8 ≤ length l → lowFirst (part l at 8) ≡ lowFirst (part l at 4) + 4294967296 * lowFirst (part l (at + 4) 4)
+  eight-low h = low-parts l at 4 4 h

@@ -94,6 +94,16 @@ pub fn four_at(s: &[u8], at: usize) -> u32
     low + 65536 * high
 }
 
+// The number in eight bytes, low byte first.
+pub fn eight_at(s: &[u8], at: usize) -> u64
+    requires { ⌜ at + 8 ≤ length (now s) ⌝ }
+    ensures { λ r. ⌜ r ≡ lowFirst (partOf (now (s .entry)) at 8) ⌝ }
+{
+    let low = four_at(s, at) as u64;
+    let high = four_at(s, at + 4) as u64;
+    low + 4294967296 * high
+}
+
 // Parts of four, six, eight and thirteen bytes, by value.
 pub fn four_of(s: &[u8], at: usize) -> [u8; 4]
     requires { ⌜ at + 4 ≤ length (now s) ⌝ }

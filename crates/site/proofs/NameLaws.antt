@@ -1,19 +1,26 @@
 -- The laws of names: what is known of `sameName`, and that a name stands in one row.
-use Prim.Native.Nat.{ℕ, _<_}
+use Prim.Native.Nat.{ℕ, _+_, _*_, _≤_, _<_}
 use native.Mathlib.Omega.{arith}
 use mathlib.Core.Path.{_≡_, subst}
 use mathlib.Core.Bool.{true, false, _&&_}
 use mathlib.Core.List.{List}
 use lib.Dec.{ltb}
+use lib.ListN.{length}
 use borrow.Author.Tests.{ltb-true, ltb-false, not-true}
 use Rattle.rows.specs.Words.{any, first, same}
 use Rattle.rows.proofs.BoolLaws.{by-test, by-eq, both, and-left, and-right, and-both, iff}
 use Rattle.rows.proofs.BuildLaws.{same-is, same-refl}
 use Rattle.rows.proofs.IndexLaws.{any-at, none-at, none-from, first-found}
+use Rattle.rows.proofs.RowLaws.{length-part}
 use Rattle.site.specs.Layout.{users, nameAt, userPassword, usersFrom}
 use Rattle.site.specs.Rules.{sameName, namedAt, nameAlone, userNamed, goodSite}
 use Rattle.site.specs.Found.{userIs, hasUser}
 use Rattle.site.proofs.RuleLaws.{site-user}
+
+-- a name has eight bytes
+pub name-long : (f : List ℕ) (from w i : ℕ) → from + w * i + 8 ≤ length f → length (nameAt f from w i) ≡ 8
+unfolding nameAt
+name-long f from w i h = length-part f (from + w * i) 8 h
 
 -- two names that are equal to one are equal
 pub names-join : (a b c : List ℕ) → sameName a c ≡ true → sameName b c ≡ true → sameName a b ≡ true

@@ -12,16 +12,17 @@ ghost use Rattle.rows.specs.Words.{first};
 ghost use Rattle.site.specs.Layout.{partitionsFrom, partitionRow};
 ghost use Rattle.site.specs.Rules.{sameName, namedAt, ranged, meet, partitionNumbered, partitionsOverlap};
 
-// Two names are equal.
+// Two names are equal. As numbers they are compared at once.
 fn same_name(a: &[u8], b: &[u8]) -> bool
+    requires { ⌜ (length (now a) ≡ 8) × (length (now b) ≡ 8) ⌝ }
     ensures { λ r. ⌜ r ≡ sameName (now (a .entry)) (now (b .entry)) ⌝ }
 {
-    rows::is_same(a, b)
+    rows::eight_at(a, 0) == rows::eight_at(b, 0)
 }
 
 // The first of n rows of w bytes, where the rows begin at `from`, with this name; or n.
 pub fn find_name(file: &[u8], from: usize, w: usize, n: usize, name: &[u8]) -> usize
-    requires { ⌜ (from + w * n ≤ length (now file)) × (8 ≤ w) ⌝ }
+    requires { ⌜ (from + w * n ≤ length (now file)) × (8 ≤ w) × (length (now name) ≡ 8) ⌝ }
     ensures { λ r. ⌜ r ≡ first (namedAt (now (file .entry)) from w (now (name .entry))) n ⌝ }
 {
     let mut i: usize = 0;

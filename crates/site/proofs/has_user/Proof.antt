@@ -20,7 +20,7 @@ slice-aggregate-find-name : tie.Need-slice-aggregate-find-name
 slice-aggregate-find-name c = search needs
 
 find-name-requires : tie.Need-find-name-requires
-find-name-requires c κs = (omega (arith, c .before .users .ensures .0, site-header (now (c .before .before .before .args .file)) (c .before .before .before .pre) .whole), lit≤ tt)
+find-name-requires c κs = (omega (arith, c .before .users .ensures .0, site-header (now (c .before .before .before .args .file)) (c .before .before .before .pre) .whole), lit≤ tt, search needs)
 
 returns : tie.Need-returns
 returns c = let a = c .before .before .before .before .before .args in

@@ -21,7 +21,7 @@ slice-aggregate-find-name : tie.Need-slice-aggregate-find-name
 slice-aggregate-find-name c = search needs
 
 find-name-requires : tie.Need-find-name-requires
-find-name-requires c κs = (omega (arith, c .before .partitions-from .ensures, c .before .before .partitions .ensures .0, site-header (now (c .before .before .before .before .args .file)) (c .before .before .before .before .pre) .whole), lit≤ tt)
+find-name-requires c κs = (omega (arith, c .before .partitions-from .ensures, c .before .before .partitions .ensures .0, site-header (now (c .before .before .before .before .args .file)) (c .before .before .before .before .pre) .whole), lit≤ tt, search needs)
 
 returns : tie.Need-returns
 unfolding indexOfName

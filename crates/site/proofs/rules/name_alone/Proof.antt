@@ -1,7 +1,9 @@
 use Rattle.site.specs.Rules.{namedAt, nameAlone}
+use Rattle.site.proofs.NameLaws.{name-long}
 use Rattle.rows.proofs.IndexLaws.{first-misses}
 use Rattle.rows.specs.Words.{first}
 use lib.Dec.{leb}
+use lib.ListN.{length}
 use mathlib.Core.Path.{ap, _∙_}
 use mathlib.Core.List.{List}
 use Prim.Native.Nat.{ℕ}
@@ -14,7 +16,9 @@ name-at-requires : tie.Need-name-at-requires
 name-at-requires c κs = omega arith
 
 find-name-requires : tie.Need-find-name-requires
-find-name-requires c κs = (omega arith, c .before .before .pre .1)
+find-name-requires c κs =
+    let a = c .before .before .args in
+    (omega arith, c .before .before .pre .1, ap length (c .name-at .ensures) ∙ name-long (now (a .file)) (a .from) (a .w) (a .i) (omega arith))
 
 returns : tie.Need-returns
 unfolding nameAlone

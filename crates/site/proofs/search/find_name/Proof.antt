@@ -1,7 +1,9 @@
 use Rattle.site.specs.Rules.{sameName, namedAt}
+use Rattle.site.proofs.NameLaws.{name-long}
 use Rattle.rows.proofs.IndexLaws.{Searching, search-starts, search-on, search-hit, search-ends}
 use Rattle.rows.proofs.RowLaws.{row-end}
 use denote.Ref.{now}
+use lib.ListN.{length}
 use native.Mathlib.Omega.{arith}
 use mathlib.Core.List.{List}
 use mathlib.Core.Path.{sym, ap, _∙_}
@@ -22,7 +24,9 @@ name-at-requires : tie.Need-name-at-requires Inv-loop μ-loop
 name-at-requires c κs = omega (arith, row-end (c .before .before .before .before .args .w) (c .loop-test .taken))
 
 same-name-requires : tie.Need-same-name-requires Inv-loop μ-loop
-same-name-requires c κs = tt
+same-name-requires c κs =
+    let s = c .before .before .before .before .before in
+    (ap length (c .name-at .ensures) ∙ name-long (now (s .args .file)) (s .args .from) (s .args .w) _ (omega (arith, row-end (s .args .w) (c .before .loop-test .taken))), s .pre .2)
 
 returns : tie.Need-returns Inv-loop μ-loop
 unfolding namedAt

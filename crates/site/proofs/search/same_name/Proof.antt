@@ -1,14 +1,29 @@
 use Rattle.site.specs.Rules.{sameName}
+use Rattle.rows.specs.Numbers.{lowFirst}
+use Rattle.rows.proofs.NumberLaws.{same-low}
+use Rattle.rows.proofs.RowLaws.{part-end}
+use denote.Ref.{now}
+use lib.Dec.{eqb}
+use mathlib.Core.List.{[]}
+use mathlib.Core.Path.{refl, sym, ap, ap₂, _∙_}
 use borrow.Author.Needs.{needs}
 use Rattle.site.proofs.search.same_name.Statement.{statement}
 use Rattle.site.proofs.search.same_name.Tie as tie
 
-is-same-requires : tie.Need-is-same-requires
-is-same-requires c κs = search needs
+eight-at-requires : tie.Need-eight-at-requires
+eight-at-requires c κs = search needs
+
+eight-at-requires-2 : tie.Need-eight-at-requires-2
+eight-at-requires-2 c κs = search needs
 
 returns : tie.Need-returns
 unfolding sameName
-returns c = c .is-same .ensures .answer
+returns c =
+    let s = c .before .before .before .before in
+    let a = now (s .args .a) in
+    let b = now (s .args .b) in
+    ap₂ eqb (c .before .eight-at .ensures ∙ ap lowFirst (part-end [] a 0 8 refl (s .pre .0))) (c .eight-at2 .ensures ∙ ap lowFirst (part-end [] b 0 8 refl (s .pre .1)))
+    ∙ same-low a b (λ i. c .before .before .before .shared-slice-known .given i .fits) (λ i. c .before .before .shared-slice-known2 .given i .fits) (s .pre .0 ∙ sym (s .pre .1))
 
 pub same-name-spec : {M : Type 1} → statement M
-same-name-spec = tie.close (tie.spec is-same-requires returns)
+same-name-spec = tie.close (tie.spec eight-at-requires eight-at-requires-2 returns)
