@@ -11,14 +11,7 @@ pub fn tracks(size: u8) -> u32
     requires { ⌜ (1 ≤ size) × (size ≤ 6) ⌝ }
     ensures { λ r. ⌜ (r ≡ tracksOf size) × (r ≤ 512) ⌝ }
 {
-    match size {
-        1 => 16,
-        2 => 32,
-        3 => 64,
-        4 => 128,
-        5 => 256,
-        _ => 512,
-    }
+    8 << size as u32
 }
 
 // Its sectors.

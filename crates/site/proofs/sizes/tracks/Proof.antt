@@ -1,41 +1,28 @@
-use Prim.Native.Nat.{ℕ, _+_, _≤_}
-use native.Mathlib.Nat.{le-antisymm}
-use mathlib.Core.Path.{_≡_, refl}
+use Prim.Native.Nat.{ℕ, suc, _-_, _*_, _^_, _≤_}
+use native.Mathlib.Nat.{pow-suc}
+use lib.Pow.{pow-mono}
+use mathlib.Core.Path.{_≡_, ap, _∙_}
 use native.Mathlib.Omega.{arith}
 use Rattle.site.specs.Rules.{tracks}
-use lib.Dec.{lit≤}
+use borrow.Author.Needs.{needs}
 use Rattle.site.proofs.sizes.tracks.Statement.{statement}
 use Rattle.site.proofs.sizes.tracks.Tie as tie
 
-above : (k n : ℕ) → k ≤ n → (n ≡ k → ⊥) → k + 1 ≤ n
-above k n l ne = omega arith
+shl-result : tie.Need-shl-result
+shl-result c = search needs
+
+doubled : (n : ℕ) → 1 ≤ n → 2 ^ n ≡ 2 * 2 ^ (n - 1)
+doubled n l =
+    let next : n ≡ suc (n - 1) = omega arith in
+    let twice : 2 ^ suc (n - 1) ≡ 2 * 2 ^ (n - 1) = omega (arith, pow-suc 2 (n - 1)) in
+    ap (λ (k : ℕ). 2 ^ k) next ∙ twice
 
 returns : tie.Need-returns
 unfolding tracks
-returns c = rw (c .match .keys1) (refl, lit≤ tt)
-
-returns-2 : tie.Need-returns-2
-unfolding tracks
-returns-2 c = rw (c .match .keys2) (refl, lit≤ tt)
-
-returns-3 : tie.Need-returns-3
-unfolding tracks
-returns-3 c = rw (c .match .keys3) (refl, lit≤ tt)
-
-returns-4 : tie.Need-returns-4
-unfolding tracks
-returns-4 c = rw (c .match .keys4) (refl, lit≤ tt)
-
-returns-5 : tie.Need-returns-5
-unfolding tracks
-returns-5 c = rw (c .match .keys5) (refl, lit≤ tt)
-
-returns-6 : tie.Need-returns-6
-unfolding tracks
-returns-6 c = let n = c .before .args .size in
-    let none = c .match .rest in
-    let six : n ≡ 6 = le-antisymm (c .before .pre .1) (above 5 n (above 4 n (above 3 n (above 2 n (above 1 n (c .before .pre .0) (none .0 .0 .0 .0 .1)) (none .0 .0 .0 .1)) (none .0 .0 .1)) (none .0 .1)) (none .1)) in
-    rw six (refl, lit≤ tt)
+returns c =
+    let n = c .args .size in
+    let few : 2 ^ n ≤ 64 = pow-mono (c .pre .1) in
+    (omega (arith, few, doubled n (c .pre .0)), omega (arith, few))
 
 pub tracks-spec : {M : Type 1} → statement M
-tracks-spec = tie.close (tie.spec returns returns-2 returns-3 returns-4 returns-5 returns-6)
+tracks-spec = tie.close (tie.spec shl-result returns)
