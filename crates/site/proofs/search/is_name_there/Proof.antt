@@ -1,0 +1,51 @@
+use Rattle.site.specs.Rules.{namedAt}
+use Rattle.rows.proofs.IndexLaws.{Searching, search-starts, search-on, search-any, search-none}
+use Rattle.rows.proofs.RowLaws.{row-end}
+use native.Mathlib.Omega.{arith}
+use mathlib.Core.Path.{sym, _∙_}
+use Prim.Native.Nat.{_-_}
+use Rattle.site.proofs.search.is_name_there.Statement.{statement}
+use Rattle.site.proofs.search.is_name_there.Tie as tie
+
+abbrev Inv-loop : tie.InvT-loop
+Inv-loop file from w n name i₀ i = Searching (namedAt file from w name) n i
+
+abbrev μ-loop : tie.MeasureT-loop
+μ-loop file from w n name i₀ i = n - i
+
+loop-holds : tie.Need-loop-holds Inv-loop μ-loop
+loop-holds c = search-starts _ _
+
+is-named-requires : tie.Need-is-named-requires Inv-loop μ-loop
+is-named-requires c κs =
+    let s = c .before .before .before .before in
+    (omega (arith, row-end (s .args .w) (c .loop-test .taken)), s .pre .2)
+
+returns : tie.Need-returns Inv-loop μ-loop
+returns c = search-any _ _ (c .before .before .loop-test .taken) (sym (c .before .is-named .ensures) ∙ c .if1 .taken)
+
+add-i : tie.Need-add-i Inv-loop μ-loop
+add-i c = omega arith
+
+loop-less : tie.Need-loop-less Inv-loop μ-loop
+loop-less c = omega arith
+
+loop-again : tie.Need-loop-again Inv-loop μ-loop
+loop-again c = search-on _ _ (c .before .before .before .loop .inv) (c .before .before .loop-test .taken) (sym (c .before .is-named .ensures) ∙ c .if1 .left)
+
+returns-2 : tie.Need-returns-2 Inv-loop μ-loop
+returns-2 c = search-none _ _ (c .before .loop .inv) (c .loop-test .left)
+
+pub is-name-there-spec : {M : Type 1} → statement M
+is-name-there-spec =
+    tie.close
+    (tie.spec
+    Inv-loop
+    μ-loop
+    loop-holds
+    is-named-requires
+    returns
+    add-i
+    loop-less
+    loop-again
+    returns-2)
