@@ -1,20 +1,20 @@
 -- The laws of lock strings. Two strings are the same exactly when their normal forms are equal.
-use Prim.Native.Nat.{ℕ, min, _+_, _-_, _≤_}
+use Prim.Native.Nat.{ℕ, min, _+_, _-_, _≤_, _<_}
 use native.Mathlib.Omega.{arith}
 use mathlib.Core.Path.{_≡_, refl, sym, ap, _∙_}
-use mathlib.Core.Bool.{true, false, _&&_}
+use mathlib.Core.Bool.{true, _&&_}
 use mathlib.Core.List.{List, append-nil}
 use lib.Dec.{eqb, leb}
 use lib.ListN.{length, getD, take, drop, replicate, length-take, drop-of-length-le}
 use lib.Seq.{getD-take, take-at, take-all, drop-at}
-use borrow.Author.Tests.{eqb-true, eq-eqb, ne-eqb, leb-true, leb-false}
-use Rattle.rows.proofs.BoolLaws.{by-test, by-eq, contra, and-left, and-right, and-both}
+use borrow.Author.Tests.{eqb-true, eq-eqb, leb-true, leb-false}
+use Rattle.rows.proofs.BoolLaws.{by-test, and-left, and-right, and-both}
 use Rattle.rows.proofs.BuildLaws.{same-is, same-refl, drop-zeros}
 use Rattle.rows.proofs.RowLaws.{getD-part, part-part, length-over}
 use Rattle.rows.specs.Words.{same}
 use Rattle.rows.specs.Rows.{part, over}
 use Rattle.terms.specs.declared.LockString.{LockString}
-use Rattle.terms.specs.Strings.{stringAt, legal, key, sameString, endsAs, normal}
+use Rattle.terms.specs.Strings.{stringAt, legal, key, sameString, normal}
 
 -- a legal length
 pub legal-len : (s : LockString) → legal s ≡ true → (1 ≤ s .len) × (s .len ≤ 13)
@@ -60,18 +60,15 @@ is-same-string a b e = and-both (eq-eqb _ _ (e .long)) (rw (e .keys) (same-refl 
 pub same-string-refl : (a : LockString) → sameString a a ≡ true
 same-string-refl a = is-same-string a a (record { long = refl; keys = refl })
 
--- strings that end differently are not the same
-pub ends-differ : (a b : LockString) → endsAs (a .bytes) b ≡ false → sameString a b ≡ false
-unfolding endsAs key
-ends-differ a b = contra (sameString a b) (endsAs (a .bytes) b) (λ h.
-    let e = same-string-is a b h in
-    let k = min (b .len) 13 in
-    by-eq k 0
-    (λ z. rw (eq-eqb k 0 z))
-    (λ nz. rw (ne-eqb k 0 nz) (eq-eqb _ _ (
-    sym (getD-take (a .len) (a .bytes) (k - 1) 0 (omega (arith, e .long)))
-    ∙ ap (λ (l : List ℕ). getD l (k - 1) 0) (e .keys)
-    ∙ getD-take (b .len) (b .bytes) (k - 1) 0 (omega arith)))))
+-- two strings that are the same have the same bytes
+pub same-byte : (l : List ℕ) (at : ℕ) (s : LockString) (k : ℕ) → k < min (s .len) 13 → sameString (stringAt l at) s ≡ true → getD l (at + 1 + k) 0 ≡ getD (s .bytes) k 0
+unfolding key stringAt
+same-byte l at s k b h =
+    let e = same-string-is (stringAt l at) s h in
+    sym (getD-part l (at + 1) 13 k (omega arith))
+    ∙ sym (getD-take (stringAt l at .len) (stringAt l at .bytes) k 0 (omega (arith, e .long)))
+    ∙ ap (λ (x : List ℕ). getD x k 0) (e .keys)
+    ∙ getD-take (s .len) (s .bytes) k 0 (omega arith)
 
 -- the same strings have one normal form
 pub same-normal : (a b : LockString) → sameString a b ≡ true → normal a ≡ normal b

@@ -1,6 +1,6 @@
 -- Lock strings: when one is legal, when two are the same, and the form with zeros after the string.
-use Prim.Native.Nat.{ℕ, min, _+_, _-_}
-use mathlib.Core.Bool.{Bool, _&&_, _||_}
+use Prim.Native.Nat.{ℕ, _+_}
+use mathlib.Core.Bool.{Bool, _&&_}
 use mathlib.Core.List.{List}
 use lib.Dec.{eqb, leb}
 use lib.ListN.{getD, take, replicate}
@@ -23,10 +23,6 @@ key s = take (s .len) (s .bytes)
 -- length and the first length bytes are equal
 unfoldable pub sameString : LockString → LockString → Bool
 sameString a b = eqb (a .len) (b .len) && same (key a) (key b)
-
--- thirteen bytes and a string of that length have the same last byte, or the string has none: so it is of two that are the same
-unfoldable pub endsAs : List ℕ → LockString → Bool
-endsAs b s = eqb (min (s .len) 13) 0 || eqb (getD b (min (s .len) 13 - 1) 0) (getD (s .bytes) (min (s .len) 13 - 1) 0)
 
 -- zeros after the string
 unfoldable pub normal : LockString → LockString

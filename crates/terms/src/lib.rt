@@ -1,10 +1,11 @@
 // The terms of the rules as types. Volume, partition, track and sector are four types, so that none can be passed where
 // another is due. A lock string travels by value, as thirteen bytes beside its length.
 ghost use mathlib.Core.Path.{_≡_};
+ghost use mathlib.Core.Bool.{true, false};
 ghost use Prim.Native.Nat.{_+_, _≤_, min};
 ghost use Rattle.rows.specs.Outcomes.{Gives};
 ghost use lib.ListN.{length};
-ghost use Rattle.terms.specs.Strings.{legal, stringAt, sameString, endsAs, normal as normalOf};
+ghost use Rattle.terms.specs.Strings.{legal, stringAt, sameString, normal as normalOf};
 
 pub struct Volume(pub u8);
 
@@ -64,19 +65,6 @@ pub fn same_string(a: LockString, b: LockString) -> bool
     rows::is_same(&x[..n], &y[..n])
 }
 
-// These thirteen bytes, taken as a string as long as s, end as s does.
-fn ends_as(bytes: &[u8], s: LockString) -> bool
-    requires { ⌜ length (now bytes) ≡ 13 ⌝ }
-    ensures { λ r. ⌜ r ≡ endsAs (now (bytes .entry)) s ⌝ }
-{
-    let n = used(s.len);
-    if n < 1 {
-        return true;
-    }
-    let own = s.bytes;
-    bytes[n - 1] == own[n - 1]
-}
-
 // The string that stands at `at`, its length first, by value.
 pub fn string_at(bytes: &[u8], at: usize) -> LockString
     requires { ⌜ at + 14 ≤ length (now bytes) ⌝ }
@@ -88,6 +76,19 @@ pub fn string_at(bytes: &[u8], at: usize) -> LockString
     }
 }
 
+// The last byte of that string is not the last of s, where both are as long as s.
+fn ends_differ(bytes: &[u8], at: usize, s: LockString) -> bool
+    requires { ⌜ at + 14 ≤ length (now bytes) ⌝ }
+    ensures { λ r. ⌜ (r ≡ true → sameString (stringAt (now (bytes .entry)) at) s ≡ false) ⌝ }
+{
+    let end = used(s.len);
+    if end < 1 {
+        return false;
+    }
+    let own = s.bytes;
+    bytes[at + end] != own[end - 1]
+}
+
 // That string and s are one. Records of one file mostly differ in their last byte, so that length and last byte are tested
 // before the string is read out.
 pub fn is_string_at(bytes: &[u8], at: usize, s: LockString) -> bool
@@ -97,7 +98,7 @@ pub fn is_string_at(bytes: &[u8], at: usize, s: LockString) -> bool
     if bytes[at] != s.len {
         return false;
     }
-    if !ends_as(rows::part(bytes, at + 1, 13), s) {
+    if ends_differ(bytes, at, s) {
         return false;
     }
     same_string(string_at(bytes, at), s)
