@@ -1,5 +1,5 @@
 -- The station's entries: the words of its steps and of the frame it sends, and what the C program can rely on.
-use Prim.Native.Nat.{ℕ, zero, suc, min, _≤_, _<_}
+use Prim.Native.Nat.{ℕ, zero, suc, min, _<_}
 use native.Mathlib.Omega.{arith}
 use mathlib.Core.Path.{_≡_, refl, sym, ap, _∙_}
 use mathlib.Core.Bool.{Bool, true, false, cond, not, _&&_}
@@ -16,7 +16,7 @@ use Rattle.station.specs.State.{limit, stateLength, listOf, waitOf, listed, cod
 use Rattle.station.specs.Good.{goodState}
 use Rattle.station.specs.Asks.{freshState, waits, askRefusal, frameAwaited, sendRefusal, sentOf, bufferAfter}
 use Rattle.station.specs.Replies.{fits, grants, carriesLength, adds, replyRefusal, Replies}
-use Rattle.station.proofs.StateLaws.{state-is, wait-long}
+use Rattle.station.proofs.Cases.{sent-short}
 use Rattle.hinet.specs.Packing.{word, writtenWord, refusalIn, toldIn}
 use Rattle.hinet.specs.StationEntries.{stepTold, Steps, freshRefusal, Freshly, Takes, sentTold, Sends}
 use Rattle.hinet.proofs.PackLaws.{word-back, written-back, choice-tells, refused-choice}
@@ -95,22 +95,8 @@ module _ {k : ℕ} (small : k < 256) {after st : List ℕ} {r : ℕ} {st′ : Li
       let told = refused-choice word (λ k. refl) k small [] (word-back (answers []) tt) r (done .answer) ne in
       (told .0, told .1, done .left ∙ rw (told .2))
 
--- a frame sent has at most 15 bytes
-frame-short : (v : List ℕ) → length v ≡ 15 → length (frameAwaited v) ≤ 15
-unfolding frameAwaited
-frame-short v long = by-test (eqb (codeIn v) 0)
-    (λ y. rw y (omega arith))
-    (λ n. by-test (eqb (codeIn v) CLEAR) (λ y. rw (n, y) (omega arith)) (λ m. rw (n, m) (omega (arith, long))))
-
+-- the refusal of a frame sent
 module _ (st : List ℕ) (n : ℕ) where
-  pub sent-short : sentOf st n .length < 256
-  unfolding sentOf sendRefusal
-  sent-short = by-test (goodState st)
-      (λ y. by-test (ltb n (length (frameAwaited (waitOf st))))
-      (λ l. rw (y, l) (omega arith))
-      (λ m. rw (y, m) (omega (arith, frame-short (waitOf st) (wait-long st (state-is st y .sized))))))
-      (λ m. rw m (omega arith))
-
   sent-refusal : sentOf st n .refusal ≡ sendRefusal st n
   unfolding sentOf
   sent-refusal = by-eq (sendRefusal st n) 0 (λ z. rw z) (λ ne. rw (ne-eqb (sendRefusal st n) 0 ne))

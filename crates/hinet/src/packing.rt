@@ -4,7 +4,7 @@ use master::Turned;
 use site::Placed;
 use station::Sent;
 ghost use mathlib.Core.Path.{_≡_};
-ghost use Prim.Native.Nat.{_<_, min};
+ghost use Prim.Native.Nat.{min};
 ghost use Rattle.master.specs.Answers.{told};
 ghost use Rattle.master.specs.Frames.{placeTold};
 ghost use Rattle.master.specs.Polls.{turnTold};
@@ -85,8 +85,8 @@ pub fn pack_step(refusal: u8) -> u64
     refusal as u64
 }
 
+// A frame sent: its refusal, or its length.
 pub fn pack_sent(sent: Sent) -> u64
-    requires { ⌜ sent .length < 256 ⌝ }
     ensures { λ r. ⌜ r ≡ writtenWord (sentTold sent) ⌝ }
 {
     let refusal = sent.refusal;

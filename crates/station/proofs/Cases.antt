@@ -4,12 +4,13 @@ use native.Mathlib.Omega.{arith}
 use mathlib.Core.Path.{_≡_, refl, sym, ap, _∙_}
 use mathlib.Core.Bool.{Bool, true, false, cond, not, _&&_}
 use mathlib.Core.List.{List, [], _++_}
-use lib.Dec.{leb, ltb}
+use lib.Dec.{eqb, leb, ltb}
 use lib.ListN.{length}
 use borrow.Author.Tests.{ne-eqb, le-leb, lt-leb, leb-false, le-ltb, not-true}
 use Rattle.rows.specs.Outcomes.{Leaves}
 use Rattle.rows.proofs.BoolLaws.{by-test, both, and-left, and-right}
 use Rattle.terms.specs.Strings.{legal}
+use Rattle.frames.specs.Table.{CLEAR}
 use Rattle.frames.specs.declared.Request.{Request}
 use Rattle.frames.specs.declared.Written.{Written}
 use Rattle.frames.specs.Writing.{frameOf, writtenOf}
@@ -18,6 +19,7 @@ use Rattle.station.specs.declared.Sent.{Sent}
 use Rattle.station.specs.State.{limit, listOf, waitOf, listed, added, codeIn, askedIn, nothing}
 use Rattle.station.specs.Good.{goodState}
 use Rattle.station.specs.Asks.{waits, askRefusal, Asks, frameAwaited, sendRefusal, sentOf, bufferAfter}
+use Rattle.station.proofs.StateLaws.{state-is, wait-long}
 use Rattle.station.specs.Replies.{fits, grants, carriesLength, adds, replyRefusal, afterReply, Replies}
 
 -- an ask: refused, or done
@@ -134,3 +136,18 @@ module _ (st b : List ℕ) where
       by-test (ltb (length b) (length (frameOf q)))
       (λ y. record { answer = same ∙ rw (g, ← e, y); left = done .left ∙ rw (g, ← e, y) })
       (λ n. record { answer = same ∙ rw (g, ← e, n); left = done .left ∙ rw (g, ← e, n) })
+
+-- a frame sent has at most 15 bytes
+frame-short : (v : List ℕ) → length v ≡ 15 → length (frameAwaited v) ≤ 15
+unfolding frameAwaited
+frame-short v long = by-test (eqb (codeIn v) 0)
+    (λ y. rw y (omega arith))
+    (λ n. by-test (eqb (codeIn v) CLEAR) (λ y. rw (n, y) (omega arith)) (λ m. rw (n, m) (omega (arith, long))))
+
+pub sent-short : (st : List ℕ) (n : ℕ) → sentOf st n .length < 256
+unfolding sentOf sendRefusal
+sent-short st n = by-test (goodState st)
+    (λ y. by-test (ltb n (length (frameAwaited (waitOf st))))
+    (λ l. rw (y, l) (omega arith))
+    (λ m. rw (y, m) (omega (arith, frame-short (waitOf st) (wait-long st (state-is st y .sized))))))
+    (λ m. rw m (omega arith))

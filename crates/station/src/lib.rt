@@ -142,7 +142,7 @@ fn command_of(code: u8) -> Command
 // What a station sends: a refusal and 0, or 0 and the length of the frame, 0 where nothing is awaited.
 pub struct Sent {
     pub refusal: u8,
-    pub length: usize,
+    pub length: u8,
 }
 
 // Writes the frame awaited at the start of the buffer: 11, 13.
@@ -174,7 +174,7 @@ pub fn send(state: &[u8], buffer: &mut [u8]) -> Sent
     let written = frames::write(request, buffer);
     Sent {
         refusal: written.refusal,
-        length: written.length,
+        length: written.length as u8,
     }
 }
 

@@ -1,11 +1,13 @@
-use mathlib.Core.Path.{_≡_, sym, _∙_}
+use mathlib.Core.Path.{_≡_, sym, subst, _∙_}
+use Prim.Native.Nat.{_<_}
+use Rattle.station.specs.declared.Sent.{Sent}
 use mathlib.Core.Bool.{true}
 use Rattle.station.proofs.WaitLaws.{state-awaits, awaited-frame}
 use borrow.Author.Tests.{ne-eqb, not-true, not-false}
 use Rattle.station.specs.Asks.{waits}
 use native.Mathlib.Omega.{arith}
 use denote.Ref.{now}
-use Rattle.station.proofs.Cases.{send-bad-state, send-none, send-frame}
+use Rattle.station.proofs.Cases.{Sends, send-bad-state, send-none, send-frame, sent-short}
 use Rattle.station.proofs.StateLaws.{code-at, state-is}
 use borrow.Author.Needs.{needs}
 use Rattle.station.proofs.send.Statement.{statement}
@@ -32,16 +34,26 @@ asked-requires c κs = state-is (now (c .before .before .before .before .before 
 write-requires : tie.Need-write-requires
 write-requires c κs = search needs
 
+-- what was written is what the station sends
+done : (c : tie.After-struct-known)
+    → let a = c .before .before .before .before .before .before .before .before .before .before .before .before .before .args in
+    let w = c .before .before .before .write in
+    Sends (now (a .state)) (now (a .buffer)) (record { refusal = w .result .refusal; length = w .result .length }) (w .last .1 .0)
+unfolding waits
+done c = let a = c .before .before .before .before .before .before .before .before .before .before .before .before .before .args in
+    let st = now (a .state) in
+    let good = sym (c .before .before .before .before .before .before .before .before .before .before .is-good .ensures .answer) ∙ not-false _ (c .before .before .before .before .before .before .before .before .before .if1 .left) in
+    let waiting : waits st ≡ true = rw (ne-eqb _ _ (λ e. c .before .before .before .before .before .before .before .if2 .left (sym (code-at st) ∙ e))) in
+    send-frame st (now (a .buffer)) good _ (rw (c .before .before .before .before .before .before .command-of .ensures, ← code-at st, c .before .before .before .before .before .asked .ensures) (awaited-frame (state-awaits st good waiting))) (c .before .before .before .write .ensures)
+
+cast-t11 : tie.Need-cast-t11
+cast-t11 c = record { fits = subst (λ (s : Sent). s .length < 256) (sym (done c .answer)) (sent-short _ _) }
+
 same-length : tie.Need-same-length
 same-length c = search needs
 
 returns-3 : tie.Need-returns-3
-unfolding waits
-returns-3 c = let a = c .before .before .before .before .before .before .before .before .before .before .before .before .args in
-    let st = now (a .state) in
-    let good = sym (c .before .before .before .before .before .before .before .before .before .is-good .ensures .answer) ∙ not-false _ (c .before .before .before .before .before .before .before .before .if1 .left) in
-    let waiting : waits st ≡ true = rw (ne-eqb _ _ (λ e. c .before .before .before .before .before .before .if2 .left (sym (code-at st) ∙ e))) in
-    send-frame st (now (a .buffer)) good _ (rw (c .before .before .before .before .before .command-of .ensures, ← code-at st, c .before .before .before .before .asked .ensures) (awaited-frame (state-awaits st good waiting))) (c .before .before .write .ensures)
+returns-3 c = done c
 
 pub send-spec : {M : Type 1} → statement M
 send-spec =
@@ -54,5 +66,6 @@ send-spec =
     command-of-requires
     asked-requires
     write-requires
+    cast-t11
     same-length
     returns-3)

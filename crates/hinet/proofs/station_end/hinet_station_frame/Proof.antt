@@ -1,7 +1,6 @@
 use mathlib.Core.Path.{ap, _∙_}
 use Rattle.hinet.specs.Packing.{writtenWord}
 use Rattle.hinet.specs.StationEntries.{sentTold}
-use Rattle.hinet.proofs.StationLaws.{sent-short}
 use borrow.Author.Needs.{needs}
 use Rattle.hinet.proofs.station_end.hinet_station_frame.Statement.{statement}
 use Rattle.hinet.proofs.station_end.hinet_station_frame.Tie as tie
@@ -10,7 +9,7 @@ send-requires : tie.Need-send-requires
 send-requires c κs = search needs
 
 pack-sent-requires : tie.Need-pack-sent-requires
-pack-sent-requires c κs = rw (c .before .before .send .ensures .answer) (sent-short _ _)
+pack-sent-requires c κs = search needs
 
 same-length : tie.Need-same-length
 same-length c = search needs
