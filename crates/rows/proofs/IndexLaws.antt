@@ -142,17 +142,8 @@ module _ (p : ℕ → Bool) (n : ℕ) where
   pub search-hit : {i : ℕ} → Searching p n i → i < n → p i ≡ true → i ≡ first p n
   search-hit {i} s l h = sym (first-hit p n i l (s .1) h)
 
-  none-left : {i : ℕ} → Searching p n i → n ≤ i → any p n ≡ false
-  none-left {i} s g = subst (λ (k : ℕ). any p k ≡ false) (le-antisymm (s .0) g) (s .1)
-
   pub search-ends : {i : ℕ} → Searching p n i → n ≤ i → n ≡ first p n
-  search-ends {i} s g = sym (first-none p n (none-left s g))
-
-  pub search-any : {i : ℕ} → i < n → p i ≡ true → true ≡ any p n
-  search-any {i} l h = sym (any-at p n i l h)
-
-  pub search-none : {i : ℕ} → Searching p n i → n ≤ i → false ≡ any p n
-  search-none {i} s g = sym (none-left s g)
+  search-ends {i} s g = sym (first-none p n (subst (λ (k : ℕ). any p k ≡ false) (le-antisymm (s .0) g) (s .1)))
 
   pub pass-starts : Passing p n 0
   unfolding all

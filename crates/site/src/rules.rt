@@ -42,7 +42,7 @@ fn name_alone(file: &[u8], from: usize, w: usize, i: usize) -> bool
     ensures { λ r. ⌜ r ≡ nameAlone (now (file .entry)) from w i ⌝ }
 {
     let name = layout::name_at(file, from, w, i);
-    !search::is_name_there(file, from, w, i, name)
+    i <= search::find_name(file, from, w, i, name)
 }
 
 pub fn users_good(file: &[u8]) -> bool
@@ -124,7 +124,7 @@ fn partition_good(file: &[u8], from: usize, i: usize) -> bool
     if !number_alone(file, from, i) {
         return false;
     }
-    !search::overlaps_earlier(file, from, i)
+    i <= search::find_overlap(file, from, i)
 }
 
 pub fn partitions_good(file: &[u8]) -> bool

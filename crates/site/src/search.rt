@@ -1,5 +1,4 @@
-// Searches over the rows of a site file, each a loop that ends at the first row that fits. Those for a look-up give its
-// index, those for a rule only whether there is one.
+// Searches over the rows of a site file, each a loop that ends at the first row that fits.
 use crate::PartitionRow;
 use crate::layout;
 use crate::sizes;
@@ -9,7 +8,7 @@ ghost use mathlib.Core.Path.{_≡_};
 ghost use mathlib.Core.Bool.{true};
 ghost use Prim.Native.Nat.{ℕ, _+_, _*_, _≤_, _<_};
 ghost use lib.ListN.{length};
-ghost use Rattle.rows.specs.Words.{any, first};
+ghost use Rattle.rows.specs.Words.{first};
 ghost use Rattle.site.specs.Layout.{partitionsFrom, partitionRow};
 ghost use Rattle.site.specs.Rules.{sameName, namedAt, ranged, meet, partitionNumbered, partitionsOverlap};
 
@@ -21,42 +20,19 @@ fn same_name(a: &[u8], b: &[u8]) -> bool
     rows::eight_at(a, 0) == rows::eight_at(b, 0)
 }
 
-// The row of w bytes with index i has this name, where the rows begin at `from`, here and below.
-fn is_named(file: &[u8], from: usize, w: usize, i: usize, name: &[u8]) -> bool
-    requires { ⌜ (from + w * i + 8 ≤ length (now file)) × (length (now name) ≡ 8) ⌝ }
-    ensures { λ r. ⌜ r ≡ namedAt (now (file .entry)) from w (now (name .entry)) i ⌝ }
-{
-    same_name(layout::name_at(file, from, w, i), name)
-}
-
-// The first of n rows with this name, or n.
+// The first of n rows of w bytes, where the rows begin at `from`, with this name; or n.
 pub fn find_name(file: &[u8], from: usize, w: usize, n: usize, name: &[u8]) -> usize
     requires { ⌜ (from + w * n ≤ length (now file)) × (8 ≤ w) × (length (now name) ≡ 8) ⌝ }
     ensures { λ r. ⌜ r ≡ first (namedAt (now (file .entry)) from w (now (name .entry))) n ⌝ }
 {
     let mut i: usize = 0;
     while i < n {
-        if is_named(file, from, w, i, name) {
+        if same_name(layout::name_at(file, from, w, i), name) {
             return i;
         }
         i += 1;
     }
     n
-}
-
-// One of n rows has this name.
-pub fn is_name_there(file: &[u8], from: usize, w: usize, n: usize, name: &[u8]) -> bool
-    requires { ⌜ (from + w * n ≤ length (now file)) × (8 ≤ w) × (length (now name) ≡ 8) ⌝ }
-    ensures { λ r. ⌜ r ≡ any (namedAt (now (file .entry)) from w (now (name .entry))) n ⌝ }
-{
-    let mut i: usize = 0;
-    while i < n {
-        if is_named(file, from, w, i, name) {
-            return true;
-        }
-        i += 1;
-    }
-    false
 }
 
 // Partition row i has this volume and number. The partition rows begin at `from`, here and below.
@@ -117,18 +93,18 @@ fn rows_overlap(file: &[u8], from: usize, i: usize, j: usize) -> bool
     rows_meet(layout::row_of(file, from, i), layout::row_of(file, from, j))
 }
 
-// Partition row i overlaps one of the rows before it.
-pub fn overlaps_earlier(file: &[u8], from: usize, i: usize) -> bool
+// The first of the rows before partition row i that it overlaps, or i.
+pub fn find_overlap(file: &[u8], from: usize, i: usize) -> usize
     requires { ⌜ (from ≡ partitionsFrom (now file)) × (from + 24 * i + 24 ≤ length (now file)) ⌝ }
     requires { ⌜ ((j : ℕ) → j ≤ i → ranged (partitionRow (now file) j) ≡ true) ⌝ }
-    ensures { λ r. ⌜ r ≡ any (partitionsOverlap (now (file .entry)) i) i ⌝ }
+    ensures { λ r. ⌜ r ≡ first (partitionsOverlap (now (file .entry)) i) i ⌝ }
 {
     let mut j: usize = 0;
     while j < i {
         if rows_overlap(file, from, i, j) {
-            return true;
+            return j;
         }
         j += 1;
     }
-    false
+    i
 }

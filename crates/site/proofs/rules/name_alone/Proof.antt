@@ -1,7 +1,8 @@
 use Rattle.site.specs.Rules.{namedAt, nameAlone}
 use Rattle.site.proofs.NameLaws.{name-long}
-use Rattle.rows.specs.Words.{any}
-use mathlib.Core.Bool.{not}
+use Rattle.rows.proofs.IndexLaws.{first-misses}
+use Rattle.rows.specs.Words.{first}
+use lib.Dec.{leb}
 use lib.ListN.{length}
 use mathlib.Core.Path.{ap, _∙_}
 use mathlib.Core.List.{List}
@@ -14,15 +15,15 @@ use Rattle.site.proofs.rules.name_alone.Tie as tie
 name-at-requires : tie.Need-name-at-requires
 name-at-requires c κs = omega arith
 
-is-name-there-requires : tie.Need-is-name-there-requires
-is-name-there-requires c κs =
+find-name-requires : tie.Need-find-name-requires
+find-name-requires c κs =
     let a = c .before .before .args in
     (omega arith, c .before .before .pre .1, ap length (c .name-at .ensures) ∙ name-long (now (a .file)) (a .from) (a .w) (a .i) (omega arith))
 
 returns : tie.Need-returns
 unfolding nameAlone
 returns c = let a = c .before .before .before .args in
-    ap not (c .is-name-there .ensures ∙ ap (λ (l : List ℕ). any (namedAt (now (a .file)) (a .from) (a .w) l) (a .i)) (c .before .name-at .ensures))
+    ap (leb (a .i)) (c .find-name .ensures ∙ ap (λ (l : List ℕ). first (namedAt (now (a .file)) (a .from) (a .w) l) (a .i)) (c .before .name-at .ensures)) ∙ first-misses _ _
 
 pub name-alone-spec : {M : Type 1} → statement M
-name-alone-spec = tie.close (tie.spec name-at-requires is-name-there-requires returns)
+name-alone-spec = tie.close (tie.spec name-at-requires find-name-requires returns)

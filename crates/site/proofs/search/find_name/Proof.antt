@@ -1,9 +1,13 @@
-use Rattle.site.specs.Rules.{namedAt}
+use Rattle.site.specs.Rules.{sameName, namedAt}
+use Rattle.site.proofs.NameLaws.{name-long}
 use Rattle.rows.proofs.IndexLaws.{Searching, search-starts, search-on, search-hit, search-ends}
 use Rattle.rows.proofs.RowLaws.{row-end}
+use denote.Ref.{now}
+use lib.ListN.{length}
 use native.Mathlib.Omega.{arith}
-use mathlib.Core.Path.{sym, _∙_}
-use Prim.Native.Nat.{_-_}
+use mathlib.Core.List.{List}
+use mathlib.Core.Path.{sym, ap, _∙_}
+use Prim.Native.Nat.{ℕ, _-_}
 use Rattle.site.proofs.search.find_name.Statement.{statement}
 use Rattle.site.proofs.search.find_name.Tie as tie
 
@@ -16,13 +20,17 @@ abbrev μ-loop : tie.MeasureT-loop
 loop-holds : tie.Need-loop-holds Inv-loop μ-loop
 loop-holds c = search-starts _ _
 
-is-named-requires : tie.Need-is-named-requires Inv-loop μ-loop
-is-named-requires c κs =
-    let s = c .before .before .before .before in
-    (omega (arith, row-end (s .args .w) (c .loop-test .taken)), s .pre .2)
+name-at-requires : tie.Need-name-at-requires Inv-loop μ-loop
+name-at-requires c κs = omega (arith, row-end (c .before .before .before .before .args .w) (c .loop-test .taken))
+
+same-name-requires : tie.Need-same-name-requires Inv-loop μ-loop
+same-name-requires c κs =
+    let s = c .before .before .before .before .before in
+    (ap length (c .name-at .ensures) ∙ name-long (now (s .args .file)) (s .args .from) (s .args .w) _ (omega (arith, row-end (s .args .w) (c .before .loop-test .taken))), s .pre .2)
 
 returns : tie.Need-returns Inv-loop μ-loop
-returns c = search-hit _ _ (c .before .before .before .loop .inv) (c .before .before .loop-test .taken) (sym (c .before .is-named .ensures) ∙ c .if1 .taken)
+unfolding namedAt
+returns c = search-hit _ _ (c .before .before .before .before .loop .inv) (c .before .before .before .loop-test .taken) (ap (λ (l : List ℕ). sameName l (now (c .before .before .before .before .before .before .before .args .name))) (sym (c .before .before .name-at .ensures)) ∙ sym (c .before .same-name .ensures) ∙ c .if1 .taken)
 
 add-i : tie.Need-add-i Inv-loop μ-loop
 add-i c = omega arith
@@ -31,7 +39,8 @@ loop-less : tie.Need-loop-less Inv-loop μ-loop
 loop-less c = omega arith
 
 loop-again : tie.Need-loop-again Inv-loop μ-loop
-loop-again c = search-on _ _ (c .before .before .before .loop .inv) (c .before .before .loop-test .taken) (sym (c .before .is-named .ensures) ∙ c .if1 .left)
+unfolding namedAt
+loop-again c = search-on _ _ (c .before .before .before .before .loop .inv) (c .before .before .before .loop-test .taken) (ap (λ (l : List ℕ). sameName l (now (c .before .before .before .before .before .before .before .args .name))) (sym (c .before .before .name-at .ensures)) ∙ sym (c .before .same-name .ensures) ∙ c .if1 .left)
 
 returns-2 : tie.Need-returns-2 Inv-loop μ-loop
 returns-2 c = search-ends _ _ (c .before .loop .inv) (c .loop-test .left)
@@ -43,7 +52,8 @@ find-name-spec =
     Inv-loop
     μ-loop
     loop-holds
-    is-named-requires
+    name-at-requires
+    same-name-requires
     returns
     add-i
     loop-less

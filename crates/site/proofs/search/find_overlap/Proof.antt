@@ -1,10 +1,10 @@
 use Rattle.site.specs.Rules.{partitionsOverlap}
-use Rattle.rows.proofs.IndexLaws.{Searching, search-starts, search-on, search-any, search-none}
+use Rattle.rows.proofs.IndexLaws.{Searching, search-starts, search-on, search-hit, search-ends}
 use mathlib.Core.Path.{sym, _∙_}
 use native.Mathlib.Omega.{arith}
 use Prim.Native.Nat.{_-_}
-use Rattle.site.proofs.search.overlaps_earlier.Statement.{statement}
-use Rattle.site.proofs.search.overlaps_earlier.Tie as tie
+use Rattle.site.proofs.search.find_overlap.Statement.{statement}
+use Rattle.site.proofs.search.find_overlap.Tie as tie
 
 abbrev Inv-loop : tie.InvT-loop
 Inv-loop file from i j₀ j = Searching (partitionsOverlap file i) i j
@@ -19,7 +19,7 @@ rows-overlap-requires : tie.Need-rows-overlap-requires Inv-loop μ-loop
 rows-overlap-requires c κs = ((c .before .before .before .pre .0 .0, c .before .before .before .pre .0 .1, omega arith), (c .before .before .before .pre .1 _ (omega arith), c .before .before .before .pre .1 _ (omega arith)))
 
 returns : tie.Need-returns Inv-loop μ-loop
-returns c = search-any _ _ (c .before .before .loop-test .taken) (sym (c .before .rows-overlap .ensures) ∙ c .if1 .taken)
+returns c = search-hit _ _ (c .before .before .before .loop .inv) (c .before .before .loop-test .taken) (sym (c .before .rows-overlap .ensures) ∙ c .if1 .taken)
 
 add-j : tie.Need-add-j Inv-loop μ-loop
 add-j c = omega arith
@@ -31,10 +31,10 @@ loop-again : tie.Need-loop-again Inv-loop μ-loop
 loop-again c = search-on _ _ (c .before .before .before .loop .inv) (c .before .before .loop-test .taken) (sym (c .before .rows-overlap .ensures) ∙ c .if1 .left)
 
 returns-2 : tie.Need-returns-2 Inv-loop μ-loop
-returns-2 c = search-none _ _ (c .before .loop .inv) (c .loop-test .left)
+returns-2 c = search-ends _ _ (c .before .loop .inv) (c .loop-test .left)
 
-pub overlaps-earlier-spec : {M : Type 1} → statement M
-overlaps-earlier-spec =
+pub find-overlap-spec : {M : Type 1} → statement M
+find-overlap-spec =
     tie.close
     (tie.spec
     Inv-loop
