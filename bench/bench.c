@@ -1,25 +1,28 @@
 /*
  * Times the library against the plain C reference on the same inputs.
  *
- *   bench                   all cases: nanoseconds of both and their ratio
- *   bench cases             the names of the cases
- *   bench lib|ref CASE N    N calls of one case on one side, no clock
+ *   bench              every case in every shape: nanoseconds of both and their ratio
+ *   bench count N      N calls of each, one after the other, for a counter of
+ *                      instructions that looks at `call_often`: names them in turn
+ *   bench one SIDE CASE SHAPE N
+ *                      N calls of one case on one side (lib or ref), no clock
+ *   bench names        the cases and the shapes
  *
  * Before each call of a case the tables and the station's state are put back;
  * the case "nothing" does only that, and its cost is taken off.
  */
 #define _POSIX_C_SOURCE 199309L
 
-#include "generate.h"
 #include "hinet.h"
 #include "reference.h"
+#include "shapes.h"
 
 #include <stdio.h>
 #include <stdlib.h>
 #include <string.h>
 #include <time.h>
 
-enum { LOCKS = 1024, STATIONS = 1152, RUNS = 15, BATCH_NS = 4000000 };
+enum { RUNS = 7, BATCH_NS = 2000000 };
 
 /* ---- the two sides ---- */
 
@@ -50,124 +53,10 @@ static const struct side reference = {
     ref_station_frame, ref_station_reply
 };
 
-/* ---- the inputs ---- */
-
-static struct site site;                /* 128 users, 64 partitions; names share four bytes */
-static struct tables empty, full;
-static struct tables last;              /* full, and station 63 at its last turn */
-static struct tables alike;             /* full, with strings that differ at their start and end alike */
-static uint8_t locks[LOCKS], stations[STATIONS];
-
-/* A station that waits for nothing, with no locks and with 64; and one that
- * waits for a lock, with no locks and with 63. */
-static struct state idle_empty, idle_full, waits_empty, waits_full;
-static uint8_t state[STATE_LEN];
-static uint8_t first_string[14], new_string[14];
-
-static void serve(struct tables *tables, uint32_t number, const struct frame *frame)
-{
-    ref_frame(number, frame->bytes, frame->len, site.bytes, site.len,
-              tables->locks, LOCKS, tables->stations, STATIONS);
-}
-
-static void name_frame(struct frame *frame, uint8_t code, const uint8_t *row, size_t len)
-{
-    memset(frame, 0, sizeof *frame);
-    frame->bytes[0] = code;
-    memcpy(frame->bytes + 1, row, 14);
-    frame->len = len;
-}
-
-/* The string of a record of a file, its length first: file name 8, record number 5. */
-static void record_string(uint8_t string[14], unsigned record)
-{
-    char name[14];
-    snprintf(name, sizeof name, "CUSTOMER%05u", record % 100000);
-    string[0] = 13;
-    memcpy(string + 1, name, 13);
-}
-
-static void string_frame(struct frame *frame, uint8_t code, unsigned record)
-{
-    memset(frame, 0, sizeof *frame);
-    frame->bytes[0] = code;
-    record_string(frame->bytes + 1, record);
-    frame->len = 15;
-}
-
-/* The last sector of the last partition. */
-static void disk_frame(struct frame *frame, uint8_t code, uint8_t number)
-{
-    const uint8_t *row = site_partition(&site, 63);
-    unsigned track = (16u << (row[16] - 1)) - 1;
-    memset(frame, 0, sizeof *frame);
-    frame->bytes[0] = code;
-    frame->bytes[2] = number;
-    frame->bytes[3] = row[15];
-    frame->bytes[4] = (uint8_t)(track & 0xFF);
-    frame->bytes[5] = (uint8_t)(track >> 8);
-    frame->bytes[6] = 128;
-    frame->bytes[7] = row[14];
-    frame->len = 8;
-}
-
-/* Station 1 and no locks; or 63 stations and 64 locks. */
-static void make_tables(struct tables *tables, unsigned logins, unsigned strings)
-{
-    struct frame frame;
-    ref_fresh(tables->locks, LOCKS, tables->stations, STATIONS);
-    for (unsigned i = 0; i < logins; i++) {
-        name_frame(&frame, CODE_LOGIN, site_user(&site, i), 20);
-        serve(tables, 253, &frame);
-    }
-    for (unsigned i = 0; i < strings; i++) {
-        string_frame(&frame, CODE_LOCK, i);
-        serve(tables, i, &frame);
-    }
-}
-
-/* So many locks listed, and the one after them awaited or not. */
-static void make_state(struct state *made, unsigned listed, int waits)
-{
-    memset(made, 0, sizeof *made);
-    made->len = STATE_LEN;
-    for (unsigned i = 0; i < listed; i++)
-        record_string(made->bytes + 14 * i, i);
-    if (!waits)
-        return;
-    made->bytes[STATE_AWAITED] = CODE_LOCK;
-    record_string(made->bytes + STATE_AWAITED + 1, listed);
-}
-
-/* The record number of each string before the file name. */
-static void make_alike(void)
-{
-    alike = full;
-    for (unsigned i = 0; i < 64; i++) {
-        memcpy(alike.locks + 16 * i + 2, full.locks + 16 * i + 10, 5);
-        memcpy(alike.locks + 16 * i + 7, full.locks + 16 * i + 2, 8);
-    }
-}
-
-static void make_inputs(void)
-{
-    struct rng rng = rng_from(1982);
-    site_good(&rng, &site, 128, 64, 4);
-    make_tables(&empty, 1, 0);
-    make_tables(&full, 63, 64);
-    make_alike();
-    last = full;
-    last.stations[63 * 18 + 1] = 255;
-    last.stations[63 * 18 + 3] = 11;
-    make_state(&idle_empty, 0, 0);
-    make_state(&idle_full, 64, 0);
-    make_state(&waits_empty, 0, 1);
-    make_state(&waits_full, 63, 1);
-    record_string(first_string, 0);
-    record_string(new_string, 64);
-}
-
 /* ---- the cases ---- */
+
+static struct inputs inputs;
+static uint8_t locks[LOCKS], stations[STATIONS], state[STATE_LEN];
 
 enum what {
     NOTHING, CHECK_TABLES, CHECK_SITE, PLACE, FRAME, POLL,
@@ -179,48 +68,37 @@ struct bench_case {
     enum what what;
     const struct tables *tables;
     uint8_t code;
-    const struct state *state;  /* NULL for a case without a station */
+    const struct state *state;
 };
 
 static const struct bench_case cases[] = {
-    { "nothing", NOTHING, &empty, 0, NULL },
-    { "check-site", CHECK_SITE, &empty, 0, NULL },
-    { "place", PLACE, &empty, 0, NULL },
-    { "check-tables-empty", CHECK_TABLES, &empty, 0, NULL },
-    { "check-tables-full", CHECK_TABLES, &full, 0, NULL },
-    { "check-tables-alike", CHECK_TABLES, &alike, 0, NULL },
-    { "acknowledge-empty", FRAME, &empty, CODE_ACKNOWLEDGE, NULL },
-    { "acknowledge-full", FRAME, &full, CODE_ACKNOWLEDGE, NULL },
-    { "read-empty", FRAME, &empty, CODE_READ, NULL },
-    { "read-full", FRAME, &full, CODE_READ, NULL },
-    { "write-empty", FRAME, &empty, CODE_WRITE, NULL },
-    { "write-full", FRAME, &full, CODE_WRITE, NULL },
-    { "login-empty", FRAME, &empty, CODE_LOGIN, NULL },
-    { "login-full", FRAME, &full, CODE_LOGIN, NULL },
-    { "assign-empty", FRAME, &empty, CODE_ASSIGN, NULL },
-    { "assign-full", FRAME, &full, CODE_ASSIGN, NULL },
-    { "lock-empty", FRAME, &empty, CODE_LOCK, NULL },
-    { "lock-full", FRAME, &full, CODE_LOCK, NULL },
-    { "unlock-empty", FRAME, &empty, CODE_UNLOCK, NULL },
-    { "unlock-full", FRAME, &full, CODE_UNLOCK, NULL },
-    { "clear-empty", FRAME, &empty, CODE_CLEAR, NULL },
-    { "clear-full", FRAME, &full, CODE_CLEAR, NULL },
-    { "logout-empty", FRAME, &empty, CODE_LOGOUT, NULL },
-    { "logout-full", FRAME, &full, CODE_LOGOUT, NULL },
-    { "poll-silent-empty", POLL, &empty, 0, NULL },
-    { "poll-silent-full", POLL, &full, 0, NULL },
-    { "poll-out-full", POLL, &last, 0, NULL },
-    { "station-fresh", STATION_FRESH, &empty, 0, &idle_full },
-    { "station-lock-empty", STATION_LOCK, &empty, 0, &idle_empty },
-    { "station-lock-full", STATION_LOCK, &empty, 0, &idle_full },
-    { "station-unlock-empty", STATION_UNLOCK, &empty, 0, &idle_empty },
-    { "station-unlock-full", STATION_UNLOCK, &empty, 0, &idle_full },
-    { "station-clear-empty", STATION_CLEAR, &empty, 0, &idle_empty },
-    { "station-clear-full", STATION_CLEAR, &empty, 0, &idle_full },
-    { "station-frame-empty", STATION_FRAME, &empty, 0, &waits_empty },
-    { "station-frame-full", STATION_FRAME, &empty, 0, &waits_full },
-    { "station-reply-empty", STATION_REPLY, &empty, 0, &waits_empty },
-    { "station-reply-full", STATION_REPLY, &empty, 0, &waits_full }
+    { "nothing", NOTHING, &inputs.empty, 0, &inputs.idle_empty },
+    { "check-site", CHECK_SITE, &inputs.empty, 0, &inputs.idle_empty },
+    { "place", PLACE, &inputs.empty, 0, &inputs.idle_empty },
+    { "check-tables", CHECK_TABLES, &inputs.full, 0, &inputs.idle_empty },
+    { "acknowledge", FRAME, &inputs.full, CODE_ACKNOWLEDGE, &inputs.idle_empty },
+    { "read", FRAME, &inputs.full, CODE_READ, &inputs.idle_empty },
+    { "write", FRAME, &inputs.full, CODE_WRITE, &inputs.idle_empty },
+    { "login", FRAME, &inputs.full, CODE_LOGIN, &inputs.idle_empty },
+    { "assign", FRAME, &inputs.full, CODE_ASSIGN, &inputs.idle_empty },
+    { "lock", FRAME, &inputs.full, CODE_LOCK, &inputs.idle_empty },
+    { "unlock", FRAME, &inputs.full, CODE_UNLOCK, &inputs.idle_empty },
+    { "clear", FRAME, &inputs.full, CODE_CLEAR, &inputs.idle_empty },
+    { "logout", FRAME, &inputs.full, CODE_LOGOUT, &inputs.idle_empty },
+    { "poll", POLL, &inputs.full, 0, &inputs.idle_empty },
+    { "poll-out", POLL, &inputs.last, 0, &inputs.idle_empty },
+    { "check-tables-empty", CHECK_TABLES, &inputs.empty, 0, &inputs.idle_empty },
+    { "login-empty", FRAME, &inputs.empty, CODE_LOGIN, &inputs.idle_empty },
+    { "lock-empty", FRAME, &inputs.empty, CODE_LOCK, &inputs.idle_empty },
+    { "poll-empty", POLL, &inputs.empty, 0, &inputs.idle_empty },
+    { "station-fresh", STATION_FRESH, &inputs.empty, 0, &inputs.idle_full },
+    { "station-lock", STATION_LOCK, &inputs.empty, 0, &inputs.idle_full },
+    { "station-unlock", STATION_UNLOCK, &inputs.empty, 0, &inputs.idle_full },
+    { "station-clear", STATION_CLEAR, &inputs.empty, 0, &inputs.idle_full },
+    { "station-frame", STATION_FRAME, &inputs.empty, 0, &inputs.waits_full },
+    { "station-reply", STATION_REPLY, &inputs.empty, 0, &inputs.waits_full },
+    { "station-lock-empty", STATION_LOCK, &inputs.empty, 0, &inputs.idle_empty },
+    { "station-reply-empty", STATION_REPLY, &inputs.empty, 0, &inputs.waits_empty }
 };
 enum { CASES = sizeof cases / sizeof *cases };
 
@@ -229,9 +107,31 @@ static uint8_t number_of(const struct bench_case *c)
 {
     if (c->code == CODE_LOGIN)
         return 253;
-    return c->tables == &empty ? 1 : 63;
+    return c->tables == &inputs.empty ? 1 : 63;
 }
 
+static void fill_frame(struct frame *frame, const uint8_t *fields, size_t len)
+{
+    memcpy(frame->bytes + 1, fields, 14);
+    frame->len = len;
+}
+
+/* The last sector of the last partition. */
+static void disk_frame(struct frame *frame, uint8_t number)
+{
+    const uint8_t *row = site_partition(&inputs.site, 63);
+    unsigned track = (16u << (row[16] - 1)) - 1;
+    frame->bytes[2] = number;
+    frame->bytes[3] = row[15];
+    frame->bytes[4] = (uint8_t)(track & 0xFF);
+    frame->bytes[5] = (uint8_t)(track >> 8);
+    frame->bytes[6] = 128;
+    frame->bytes[7] = row[14];
+    frame->len = 8;
+}
+
+/* Each look-up goes to the end: the last user, the last partition, a new
+ * string for a lock and the last one for an unlock. */
 static void frame_of(const struct bench_case *c, struct frame *frame)
 {
     memset(frame, 0, sizeof *frame);
@@ -239,11 +139,11 @@ static void frame_of(const struct bench_case *c, struct frame *frame)
     frame->len = 1;
     switch (c->code) {
     case CODE_READ:
-    case CODE_WRITE:  disk_frame(frame, c->code, number_of(c)); break;
-    case CODE_LOGIN:  name_frame(frame, c->code, site_user(&site, 127), 20); break;
-    case CODE_ASSIGN: name_frame(frame, c->code, site_partition(&site, 63), 15); break;
-    case CODE_LOCK:   string_frame(frame, c->code, 64); break;
-    case CODE_UNLOCK: string_frame(frame, c->code, 63); break;
+    case CODE_WRITE:  disk_frame(frame, number_of(c)); break;
+    case CODE_LOGIN:  fill_frame(frame, site_user(&inputs.site, 127), 20); break;
+    case CODE_ASSIGN: fill_frame(frame, site_partition(&inputs.site, 63), 15); break;
+    case CODE_LOCK:   fill_frame(frame, inputs.strings[64], 15); break;
+    case CODE_UNLOCK: fill_frame(frame, inputs.strings[63], 15); break;
     case CODE_LOGOUT: frame->bytes[1] = number_of(c); frame->len = 2; break;
     default:          break;
     }
@@ -255,8 +155,8 @@ static uint64_t call_station(const struct side *side, const struct bench_case *c
     uint8_t buffer[15];
     switch (c->what) {
     case STATION_FRESH:  return side->station_fresh(state, STATE_LEN);
-    case STATION_LOCK:   return side->station_lock(state, STATE_LEN, new_string);
-    case STATION_UNLOCK: return side->station_unlock(state, STATE_LEN, first_string);
+    case STATION_LOCK:   return side->station_lock(state, STATE_LEN, inputs.strings[64]);
+    case STATION_UNLOCK: return side->station_unlock(state, STATE_LEN, inputs.strings[0]);
     case STATION_CLEAR:  return side->station_clear(state, STATE_LEN);
     case STATION_FRAME:  return side->station_frame(state, STATE_LEN, buffer, sizeof buffer);
     default:             return side->station_reply(state, STATE_LEN, 0x00);
@@ -266,16 +166,17 @@ static uint64_t call_station(const struct side *side, const struct bench_case *c
 static uint64_t call_once(const struct side *side, const struct bench_case *c,
                           const struct frame *frame)
 {
-    const uint8_t *row = site_partition(&site, 63);
+    const struct site *site = &inputs.site;
+    const uint8_t *row = site_partition(site, 63);
     memcpy(locks, c->tables->locks, LOCKS);
     memcpy(stations, c->tables->stations, STATIONS);
-    memcpy(state, (c->state != NULL ? c->state : &idle_empty)->bytes, STATE_LEN);
+    memcpy(state, c->state->bytes, STATE_LEN);
     switch (c->what) {
     case CHECK_TABLES: return side->check_tables(locks, LOCKS, stations, STATIONS);
-    case CHECK_SITE:   return side->check_site(site.bytes, site.len);
-    case PLACE:        return side->place(row[14], row[15], 15, 128, site.bytes, site.len);
+    case CHECK_SITE:   return side->check_site(site->bytes, site->len);
+    case PLACE:        return side->place(row[14], row[15], 15, 128, site->bytes, site->len);
     case FRAME:        return side->frame(number_of(c), frame->bytes, frame->len,
-                                          site.bytes, site.len,
+                                          site->bytes, site->len,
                                           locks, LOCKS, stations, STATIONS);
     case POLL:         return side->poll(number_of(c), 0, locks, LOCKS, stations, STATIONS);
     case NOTHING:      return 0;
@@ -285,6 +186,8 @@ static uint64_t call_once(const struct side *side, const struct bench_case *c,
 
 static volatile uint64_t sink;
 
+/* Not inlined, so that a counter of instructions finds it. */
+__attribute__((noinline))
 static void call_often(const struct side *side, const struct bench_case *c, unsigned long count)
 {
     struct frame frame;
@@ -334,53 +237,92 @@ static void time_case(const struct bench_case *c, double *lib, double *ref)
     }
 }
 
-static int same_answers(const struct bench_case *c)
+/* Both sides answer the same and leave the same. */
+static int same_outcome(const struct bench_case *c)
 {
+    static uint8_t left[LOCKS + STATIONS + STATE_LEN];
     struct frame frame;
     frame_of(c, &frame);
-    return call_once(&library, c, &frame) == call_once(&reference, c, &frame);
+    uint64_t answer = call_once(&library, c, &frame);
+    memcpy(left, locks, LOCKS);
+    memcpy(left + LOCKS, stations, STATIONS);
+    memcpy(left + LOCKS + STATIONS, state, STATE_LEN);
+    return answer == call_once(&reference, c, &frame)
+        && memcmp(left, locks, LOCKS) == 0
+        && memcmp(left + LOCKS, stations, STATIONS) == 0
+        && memcmp(left + LOCKS + STATIONS, state, STATE_LEN) == 0;
 }
 
-static int all_cases(void)
+static const char *const goals[] = { "in-order", "random", "colliding" };
+
+static int time_shape(unsigned shape)
 {
     double lib, ref, none_lib, none_ref;
+    shape_inputs(shape, &inputs);
     time_case(&cases[0], &none_lib, &none_ref);
-    printf("%-20s %12s %12s %8s\n", "case", "library ns", "reference ns", "ratio");
     for (unsigned i = 1; i < CASES; i++) {
-        if (!same_answers(&cases[i])) {
-            printf("%s: the answers differ\n", cases[i].name);
+        if (!same_outcome(&cases[i])) {
+            printf("%s %s: the two sides differ\n", cases[i].name, shapes[shape].name);
             return 1;
         }
         time_case(&cases[i], &lib, &ref);
         lib -= none_lib;
         ref -= none_ref;
-        printf("%-20s %12.0f %12.0f %8.2f\n", cases[i].name, lib, ref, lib / ref);
+        printf("%s %s %s %.0f %.0f %.3f\n", cases[i].name, shapes[shape].name,
+               goals[shapes[shape].goal], lib, ref, lib / ref);
     }
     return 0;
 }
 
 /* ---- arguments ---- */
 
-static int one_case(const char *side, const char *name, const char *count)
+/* Each case on each side, with "nothing" first in each shape. */
+static void count_all(unsigned long count)
 {
-    for (unsigned i = 0; i < CASES; i++)
-        if (strcmp(cases[i].name, name) == 0) {
-            call_often(strcmp(side, "lib") == 0 ? &library : &reference, &cases[i],
-                       strtoul(count, NULL, 10));
-            return 0;
+    for (unsigned shape = 0; shape < SHAPES; shape++) {
+        shape_inputs(shape, &inputs);
+        for (unsigned i = 0; i < CASES; i++) {
+            printf("%s %s %s\n", cases[i].name, shapes[shape].name, goals[shapes[shape].goal]);
+            call_often(&library, &cases[i], count);
+            call_often(&reference, &cases[i], count);
         }
-    fprintf(stderr, "no such case: %s\n", name);
+    }
+}
+
+static int one(const char *side, const char *name, const char *shape, const char *count)
+{
+    for (unsigned s = 0; s < SHAPES; s++)
+        for (unsigned i = 0; i < CASES; i++)
+            if (strcmp(shapes[s].name, shape) == 0 && strcmp(cases[i].name, name) == 0) {
+                shape_inputs(s, &inputs);
+                call_often(strcmp(side, "lib") == 0 ? &library : &reference, &cases[i],
+                           strtoul(count, NULL, 10));
+                return 0;
+            }
+    fprintf(stderr, "no such case or shape: %s %s\n", name, shape);
     return 1;
+}
+
+static int names(void)
+{
+    for (unsigned s = 0; s < SHAPES; s++)
+        for (unsigned i = 0; i < CASES; i++)
+            printf("%s %s %s\n", cases[i].name, shapes[s].name, goals[shapes[s].goal]);
+    return 0;
 }
 
 int main(int argc, char **argv)
 {
-    make_inputs();
-    if (argc == 4)
-        return one_case(argv[1], argv[2], argv[3]);
-    if (argc == 1)
-        return all_cases();
-    for (unsigned i = 0; i < CASES; i++)
-        printf("%s\n", cases[i].name);
+    if (argc == 6 && strcmp(argv[1], "one") == 0)
+        return one(argv[2], argv[3], argv[4], argv[5]);
+    if (argc == 3 && strcmp(argv[1], "count") == 0) {
+        count_all(strtoul(argv[2], NULL, 10));
+        return 0;
+    }
+    if (argc == 2 && strcmp(argv[1], "names") == 0)
+        return names();
+    for (unsigned shape = 0; shape < SHAPES; shape++)
+        if (time_shape(shape) != 0)
+            return 1;
     return 0;
 }

@@ -8,6 +8,7 @@ ghost use Rattle.rows.specs.Words.{first};
 ghost use Rattle.rows.specs.Rows.{row as rowAt, setRow};
 ghost use Rattle.locks.specs.Row.{stringOf, rowOf};
 ghost use Rattle.locks.specs.Table.{holdsAt, freeAt, ownerAt};
+ghost use Rattle.locks.specs.Shortcuts.{hashAt};
 
 // The owner of row i.
 pub fn owner_of(table: &[u8], i: usize) -> u8
@@ -31,6 +32,14 @@ pub fn string_of(table: &[u8], i: usize) -> LockString
     ensures { λ s. ⌜ s ≡ stringOf (rowAt 16 (now (table .entry)) i) ⌝ }
 {
     terms::string_at(table, ROW * i + 1)
+}
+
+// The hash of the string of row i.
+pub fn hash_of(table: &[u8], i: usize) -> usize
+    requires { ⌜ 16 * i + 16 ≤ length (now table) ⌝ }
+    ensures { λ r. ⌜ (r ≡ hashAt (now (table .entry)) i) × (r < 1024) ⌝ }
+{
+    terms::hash_at(table, ROW * i + 1)
 }
 
 // Row i is used and holds s.

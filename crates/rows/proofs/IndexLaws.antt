@@ -111,6 +111,18 @@ module _ (p q : ℕ → Bool) where
       (λ y. any-at q n k l y ∙ sym (rw y (or-true (any p n))))
       (λ m. any-same n (λ i b. by-eq i k (λ (e : i ≡ k). rw e (m ∙ sym fails)) (others i b)) ∙ sym (rw m (or-false (any p n))))
 
+  -- both hold at all indices where each does
+  pub all-and : (n : ℕ) → all (λ i. p i && q i) n ≡ (all p n && all q n)
+  unfolding all
+  all-and zero = refl
+  all-and (suc n) = rw (all-and n) (cross (all p n) (all q n) (p n) (q n))
+    where
+      cross : (a b c d : Bool) → ((a && b) && (c && d)) ≡ ((a && c) && (b && d))
+      cross false b c d = refl
+      cross true true c d = refl
+      cross true false true d = refl
+      cross true false false d = refl
+
 -- below the first index at which p holds, it fails
 pub first-least : (p : ℕ → Bool) (n i : ℕ) → i < first p n → p i ≡ false
 unfolding first

@@ -4,3 +4,5 @@ pub mod BuildLaws
 pub mod RowLaws
 pub mod NumberLaws
 pub mod OutcomeLaws
+pub mod MarkLaws
+pub mod DistinctLaws

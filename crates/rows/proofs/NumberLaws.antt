@@ -1,12 +1,13 @@
 -- The laws of specs/Numbers.antt: bytes and the number in them, both ways, over the width.
-use Prim.Native.Nat.{ℕ, zero, suc, _+_, _*_, _/_, _%_, _^_, _≤_, _<_}
+use Prim.Native.Nat.{ℕ, zero, suc, _+_, _-_, _*_, _/_, _%_, _^_, _≤_, _<_}
 use native.Mathlib.Omega.{arith}
 use native.Mathlib.Nat.{pow-suc, pow-succ', mul-assoc, add-zero}
 use mathlib.Core.Path.{_≡_, refl, sym, ap, ap₂, _∙_}
+use mathlib.Core.Bool.{true}
 use mathlib.Core.List.{List, [], _∷_, _++_}
 use lib.Dec.{ltb, eqb, lit<}
 use lib.ListN.{length, drop, getD, length-drop, List·getD-eq-default}
-use lib.Seq.{take-add, drop-drop, length-take-le}
+use lib.Seq.{take-add, drop-drop, length-take-le, ext-getD}
 use borrow.Author.Tests.{ltb-true, ltb-false, eqb-true, eq-eqb}
 use Rattle.rows.proofs.BoolLaws.{by-test, iff}
 use Rattle.rows.specs.Words.{build, same}
@@ -57,6 +58,25 @@ pub same-low : (a b : List ℕ) → Bytes a → Bytes b → length a ≡ length 
 same-low a b small-a small-b long = iff (eqb (lowFirst a) (lowFirst b)) (same a b)
     (λ y. rw (sym (bytes-back a small-a) ∙ ap₂ lowBytes long (eqb-true (lowFirst a) (lowFirst b) y) ∙ bytes-back b small-b) (same-refl b))
     (λ y. eq-eqb (lowFirst a) (lowFirst b) (ap lowFirst (same-is a b y)))
+
+-- two lists of 8 to 16 bytes whose first eight bytes hold one number, and whose last eight do
+module _ (a b : List ℕ) (small-a : Bytes a) (small-b : Bytes b) (long : length a ≡ length b) (least : 8 ≤ length a) where
+  -- byte k of both, among the eight bytes from `at` on
+  byte-in : (at k : ℕ) → at + 8 ≤ length a → lowFirst (part a at 8) ≡ lowFirst (part b at 8) → at ≤ k → k < at + 8 → getD a k 0 ≡ getD b k 0
+  byte-in at k h e g l =
+      let here : at + (k - at) ≡ k = omega arith in
+      let inside : k - at < 8 = omega arith in
+      ap (λ (j : ℕ). getD a j 0) (sym here)
+      ∙ sym (getD-part a at 8 (k - at) inside)
+      ∙ ap (λ (p : List ℕ). getD p (k - at) 0) (sym (part-back a at 8 small-a h) ∙ ap (lowBytes 8) e ∙ part-back b at 8 small-b (omega (arith, long)))
+      ∙ getD-part b at 8 (k - at) inside
+      ∙ ap (λ (j : ℕ). getD b j 0) here
+
+  pub ends-low : length a ≤ 16 → lowFirst (part a 0 8) ≡ lowFirst (part b 0 8) → lowFirst (part a (length a - 8) 8) ≡ lowFirst (part b (length a - 8) 8) → same a b ≡ true
+  ends-low most front back = rw (ext-getD 0 a b long (λ k l. by-test (ltb k 8)
+      (λ y. byte-in 0 k (omega arith) front (omega arith) (omega (arith, ltb-true k 8 y)))
+      (λ n. byte-in (length a - 8) k (omega arith) back (omega (arith, ltb-false k 8 n)) (omega arith))))
+      (same-refl b)
 
 -- the number in one part and a further one
 low-append : (a b : List ℕ) → lowFirst (a ++ b) ≡ lowFirst a + 256 ^ length a * lowFirst b

@@ -1,5 +1,7 @@
 // Rows of fixed width in lent bytes: the words that the other crates' rules are written in (specs/), the laws of those
 // words (proofs/), and the few functions that read and write a part. No function here knows what the bytes mean.
+pub mod marks;
+
 ghost use mathlib.Core.Path.{_≡_};
 ghost use Prim.Native.Nat.{_+_, _*_, _≤_, _<_};
 ghost use lib.ListN.{length};
@@ -35,23 +37,6 @@ pub fn fill(s: &mut [u8], n: usize, r: &[u8])
         put(s, r.len() * i, r);
         i += 1;
     }
-}
-
-// Two slices are as long as each other and the same byte by byte.
-pub fn is_same(a: &[u8], b: &[u8]) -> bool
-    ensures { λ r. ⌜ Gives (same (now (a .entry)) (now (b .entry))) r ⌝ }
-{
-    if a.len() != b.len() {
-        return false;
-    }
-    let mut k: usize = 0;
-    while k < a.len() {
-        if a[k] != b[k] {
-            return false;
-        }
-        k += 1;
-    }
-    true
 }
 
 // Every byte is zero.
@@ -102,6 +87,51 @@ pub fn eight_at(s: &[u8], at: usize) -> u64
     let low = four_at(s, at) as u64;
     let high = four_at(s, at + 4) as u64;
     low + 4294967296 * high
+}
+
+// Two slices of one length are the same, byte by byte.
+fn bytes_same(a: &[u8], b: &[u8]) -> bool
+    requires { ⌜ length (now b) ≡ length (now a) ⌝ }
+    ensures { λ r. ⌜ r ≡ same (now (a .entry)) (now (b .entry)) ⌝ }
+{
+    let mut k: usize = 0;
+    while k < a.len() {
+        if a[k] != b[k] {
+            return false;
+        }
+        k += 1;
+    }
+    true
+}
+
+// Two slices of one length of 8 to 16 bytes are the same: the first eight bytes are, and the last eight. As numbers they are
+// compared at once.
+fn ends_same(a: &[u8], b: &[u8]) -> bool
+    requires { ⌜ (8 ≤ length (now a)) × (length (now a) ≤ 16) × (length (now b) ≡ length (now a)) ⌝ }
+    ensures { λ r. ⌜ r ≡ same (now (a .entry)) (now (b .entry)) ⌝ }
+{
+    if eight_at(a, 0) != eight_at(b, 0) {
+        return false;
+    }
+    let last = a.len() - 8;
+    eight_at(a, last) == eight_at(b, last)
+}
+
+// Two slices are as long as each other and the same byte by byte.
+pub fn is_same(a: &[u8], b: &[u8]) -> bool
+    ensures { λ r. ⌜ Gives (same (now (a .entry)) (now (b .entry))) r ⌝ }
+{
+    let n = a.len();
+    if n != b.len() {
+        return false;
+    }
+    if n < 8 {
+        return bytes_same(a, b);
+    }
+    if 16 < n {
+        return bytes_same(a, b);
+    }
+    ends_same(a, b)
 }
 
 // Parts of four, six, eight and thirteen bytes, by value.

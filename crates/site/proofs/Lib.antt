@@ -2,3 +2,5 @@ pub mod RuleLaws
 pub mod NameLaws
 pub mod PlaceLaws
 pub mod TwoSectors
+pub mod OrderLaws
+pub mod EndLaws

@@ -1,19 +1,22 @@
 -- The laws of names: what is known of `sameName`, and that a name stands in one row.
-use Prim.Native.Nat.{ℕ, _+_, _*_, _≤_, _<_}
+use Prim.Native.Nat.{ℕ, _+_, _*_, _%_, _≤_, _<_}
 use native.Mathlib.Omega.{arith}
-use mathlib.Core.Path.{_≡_, subst}
-use mathlib.Core.Bool.{true, false, _&&_}
+use mathlib.Core.Path.{_≡_, ap, ap₂, subst}
+use mathlib.Core.Bool.{true, false, not, _&&_}
 use mathlib.Core.List.{List}
-use lib.Dec.{ltb}
+use lib.Dec.{eqb, ltb}
 use lib.ListN.{length}
-use borrow.Author.Tests.{ltb-true, ltb-false, not-true}
+use borrow.Author.Tests.{eqb-true, ltb-true, ltb-false, not-true}
 use Rattle.rows.specs.Words.{any, first, same}
 use Rattle.rows.proofs.BoolLaws.{by-test, by-eq, both, and-left, and-right, and-both, iff}
 use Rattle.rows.proofs.BuildLaws.{same-is, same-refl}
 use Rattle.rows.proofs.IndexLaws.{any-at, none-at, none-from, first-found}
+use Rattle.rows.proofs.MarkLaws.{Marked, unmarked-new}
 use Rattle.rows.proofs.RowLaws.{length-part}
-use Rattle.site.specs.Layout.{users, nameAt, userPassword, usersFrom}
-use Rattle.site.specs.Rules.{sameName, namedAt, nameAlone, userNamed, goodSite}
+use Rattle.rows.specs.Marks.{marked}
+use Rattle.site.specs.Layout.{users, nameAt, userPassword, usersFrom, partitionRow}
+use Rattle.site.specs.Shortcuts.{nameHash, numberHash}
+use Rattle.site.specs.Rules.{sameName, namedAt, nameAlone, userNamed, numbered, partitionNumbered, numberAlone, goodSite}
 use Rattle.site.specs.Found.{userIs, hasUser}
 use Rattle.site.proofs.RuleLaws.{site-user}
 
@@ -26,6 +29,30 @@ name-long f from w i h = length-part f (from + w * i) 8 h
 pub names-join : (a b c : List ℕ) → sameName a c ≡ true → sameName b c ≡ true → sameName a b ≡ true
 unfolding sameName
 names-join a b c p q = rw (same-is a c p, same-is b c q) (same-refl c)
+
+-- equal names have equal hashes
+names-hash : (a b : List ℕ) → sameName a b ≡ true → nameHash a ≡ nameHash b
+unfolding sameName
+names-hash a b h = ap nameHash (same-is a b h)
+
+-- so that a name whose hash is in no earlier row is in none
+pub unseen-alone : (n : ℕ) (f : List ℕ) (from w : ℕ) (map : List ℕ) (i : ℕ) → Marked n (λ j. nameHash (nameAt f from w j)) map i → marked map (nameHash (nameAt f from w i)) ≡ false → nameAlone f from w i ≡ true
+unfolding nameAlone namedAt
+unseen-alone n f from w map i m new = ap not (unmarked-new n (λ j. nameHash (nameAt f from w j)) map m (namedAt f from w (nameAt f from w i)) (nameHash (nameAt f from w i)) (λ j l h. names-hash (nameAt f from w j) (nameAt f from w i) h) new)
+
+-- the same for volume and number
+numbers-same : (f : List ℕ) (i j : ℕ) → partitionNumbered f (partitionRow f i .volume) (partitionRow f i .partition) j ≡ true → numberHash f j ≡ numberHash f i
+unfolding partitionNumbered numbered numberHash
+numbers-same f i j h =
+    let r = partitionRow f j in
+    let s = partitionRow f i in
+    let v = eqb (r .volume .0) (s .volume .0) in
+    let p = eqb (r .partition .0) (s .partition .0) in
+    ap₂ (λ (x y : ℕ). (64 * x + y) % 256) (eqb-true _ _ (and-left v p h)) (eqb-true _ _ (and-right v p h))
+
+pub unseen-number : (n : ℕ) (f map : List ℕ) (i : ℕ) → Marked n (numberHash f) map i → marked map (numberHash f i) ≡ false → numberAlone f i ≡ true
+unfolding numberAlone
+unseen-number n f map i m new = ap not (unmarked-new n (numberHash f) map m (partitionNumbered f (partitionRow f i .volume) (partitionRow f i .partition)) (numberHash f i) (λ j l. numbers-same f i j) new)
 
 -- of rows in which no name stands twice, one at most has a given name
 module _ (f : List ℕ) (from w n : ℕ) (alone : (i : ℕ) → i < n → nameAlone f from w i ≡ true) (name : List ℕ) where

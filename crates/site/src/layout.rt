@@ -72,3 +72,10 @@ pub fn row_of(file: &[u8], from: usize, i: usize) -> PartitionRow
         first,
     }
 }
+
+// Where partition row i begins on its volume.
+pub fn first_of(file: &[u8], from: usize, i: usize) -> u32
+    requires { ⌜ from + 24 * i + 24 ≤ length (now file) ⌝ }
+{
+    rows::four_at(file, from + PARTITION * i + 18)
+}

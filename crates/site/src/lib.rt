@@ -1,6 +1,9 @@
 // The site file: its check, what is looked up in it, and the place of an address. The file is lent and never copied.
 // `is_good` and `place` take any bytes. The others are inner halves: they rely on a file that `is_good` has passed.
+mod hashes;
 mod layout;
+mod order;
+mod overlaps;
 mod rules;
 mod search;
 mod sizes;
@@ -41,7 +44,8 @@ pub fn is_good(file: &[u8]) -> bool
     if !rules::header_good(file) {
         return false;
     }
-    if !rules::users_good(file) {
+    let n = layout::users(file);
+    if !rules::names_alone(file, layout::USERS_FROM, layout::USER, n) {
         return false;
     }
     rules::partitions_good(file)

@@ -1,15 +1,17 @@
 // The rules of a site file, header first, then the user rows, then the partition rows.
 use crate::PartitionRow;
+use crate::hashes;
 use crate::layout;
+use crate::overlaps;
 use crate::search;
 use crate::sizes;
 ghost use mathlib.Core.Path.{_≡_};
-ghost use mathlib.Core.Bool.{true};
+ghost use mathlib.Core.Bool.{true, false, _&&_};
 ghost use Prim.Native.Nat.{ℕ, _+_, _*_, _≤_, _<_};
 ghost use lib.ListN.{length};
 ghost use Rattle.rows.specs.Words.{all, zeros};
 ghost use Rattle.site.specs.Layout.{users, partitions, partitionsFrom, wholeLength, spareAt, partitionRow};
-ghost use Rattle.site.specs.Rules.{goodHeader, nameAlone, goodUser, ranged, sound, numberAlone, goodPartition};
+ghost use Rattle.site.specs.Rules.{goodHeader, nameAlone, goodUser, ranged, sound, numberAlone, apart, goodPartition};
 
 // Counts, offsets and the length of the file.
 pub fn header_good(file: &[u8]) -> bool
@@ -36,23 +38,32 @@ pub fn header_good(file: &[u8]) -> bool
     file.len() == from + layout::PARTITION * partitions
 }
 
-// No earlier row of w bytes has the name of row i, where the rows begin at `from`.
-fn name_alone(file: &[u8], from: usize, w: usize, i: usize) -> bool
+// No earlier row of w bytes has the name of row i, where the rows begin at `from`: where its hash was not seen in an earlier
+// row, none has.
+fn name_alone(file: &[u8], from: usize, w: usize, i: usize, seen: bool) -> bool
     requires { ⌜ (from + w * i + w ≤ length (now file)) × (8 ≤ w) ⌝ }
+    requires { ⌜ (seen ≡ false → nameAlone (now file) from w i ≡ true) ⌝ }
     ensures { λ r. ⌜ r ≡ nameAlone (now (file .entry)) from w i ⌝ }
 {
+    if !seen {
+        return true;
+    }
     let name = layout::name_at(file, from, w, i);
     i <= search::find_name(file, from, w, i, name)
 }
 
-pub fn users_good(file: &[u8]) -> bool
-    requires { ⌜ length (now file) ≡ wholeLength (now file) ⌝ }
-    ensures { λ r. ⌜ r ≡ all (goodUser (now (file .entry))) (users (now (file .entry))) ⌝ }
+// No two of n rows of w bytes share a name. The hash of each name is marked, and only a name whose hash was marked before is
+// compared with those before it.
+pub fn names_alone(file: &[u8], from: usize, w: usize, n: usize) -> bool
+    requires { ⌜ (from + w * n ≤ length (now file)) × (8 ≤ w) ⌝ }
+    ensures { λ r. ⌜ r ≡ all (nameAlone (now (file .entry)) from w) n ⌝ }
 {
-    let n = layout::users(file);
+    let mut map = [0u32; 32];
     let mut i: usize = 0;
     while i < n {
-        if !name_alone(file, layout::USERS_FROM, layout::USER, i) {
+        let key = layout::name_at(file, from, w, i);
+        let seen = rows::marks::mark(&mut map, hashes::name_hash(key));
+        if !name_alone(file, from, w, i, seen) {
             return false;
         }
         i += 1;
@@ -98,47 +109,68 @@ fn row_sound(file: &[u8], from: usize, i: usize) -> bool
     spare_zero(file, from + layout::PARTITION * i)
 }
 
-// No earlier partition has both volume and number of row i.
-fn number_alone(file: &[u8], from: usize, i: usize) -> bool
+// No earlier partition has both volume and number of row i: where their hash was not seen in an earlier row, none has.
+fn number_alone(file: &[u8], from: usize, i: usize, seen: bool) -> bool
     requires { ⌜ (from ≡ partitionsFrom (now file)) × (from + 24 * i + 24 ≤ length (now file)) ⌝ }
+    requires { ⌜ (seen ≡ false → numberAlone (now file) i ≡ true) ⌝ }
     ensures { λ b. ⌜ b ≡ numberAlone (now (file .entry)) i ⌝ }
 {
+    if !seen {
+        return true;
+    }
     let row = layout::row_of(file, from, i);
     let volume = row.volume;
     let partition = row.partition;
     i <= search::find_number(file, from, i, volume, partition)
 }
 
-// Partition row i keeps the rules, where the rows before it are in range.
-fn partition_good(file: &[u8], from: usize, i: usize) -> bool
-    requires { ⌜ (from ≡ partitionsFrom (now file)) × (from + 24 * i + 24 ≤ length (now file)) ⌝ }
-    requires { ⌜ ((j : ℕ) → j < i → ranged (partitionRow (now file) j) ≡ true) ⌝ }
-    ensures { λ b. ⌜ b ≡ goodPartition (now (file .entry)) i ⌝ }
+// No two of n partitions share both volume and number, by marks as above.
+fn numbers_alone(file: &[u8], from: usize, n: usize) -> bool
+    requires { ⌜ (from ≡ partitionsFrom (now file)) × (from + 24 * n ≤ length (now file)) ⌝ }
+    ensures { λ b. ⌜ b ≡ all (numberAlone (now (file .entry))) n ⌝ }
 {
-    if !row_sound(file, from, i) {
-        return false;
-    }
-    if !name_alone(file, from, layout::PARTITION, i) {
-        return false;
-    }
-    if !number_alone(file, from, i) {
-        return false;
-    }
-    i <= search::find_overlap(file, from, i)
-}
-
-pub fn partitions_good(file: &[u8]) -> bool
-    requires { ⌜ length (now file) ≡ wholeLength (now file) ⌝ }
-    ensures { λ r. ⌜ r ≡ all (goodPartition (now (file .entry))) (partitions (now (file .entry))) ⌝ }
-{
-    let n = layout::partitions(file);
-    let from = layout::partitions_from(file);
+    let mut map = [0u32; 8];
     let mut i: usize = 0;
     while i < n {
-        if !partition_good(file, from, i) {
+        let seen = rows::marks::mark(&mut map, hashes::number_hash(file, from, i));
+        if !number_alone(file, from, i, seen) {
             return false;
         }
         i += 1;
     }
     true
+}
+
+// Each of n partition rows is sound by itself.
+fn rows_sound(file: &[u8], from: usize, n: usize) -> bool
+    requires { ⌜ (from ≡ partitionsFrom (now file)) × (from + 24 * n ≤ length (now file)) ⌝ }
+    ensures { λ b. ⌜ b ≡ all (sound (now (file .entry))) n ⌝ }
+{
+    let mut i: usize = 0;
+    while i < n {
+        if !row_sound(file, from, i) {
+            return false;
+        }
+        i += 1;
+    }
+    true
+}
+
+// Each partition row keeps the rules, one rule after the other.
+pub fn partitions_good(file: &[u8]) -> bool
+    requires { ⌜ (length (now file) ≡ wholeLength (now file)) × (partitions (now file) ≤ 64) ⌝ }
+    ensures { λ r. ⌜ r ≡ all (goodPartition (now (file .entry))) (partitions (now (file .entry))) ⌝ }
+{
+    let n = layout::partitions(file);
+    let from = layout::partitions_from(file);
+    if !rows_sound(file, from, n) {
+        return false;
+    }
+    if !names_alone(file, from, layout::PARTITION, n) {
+        return false;
+    }
+    if !numbers_alone(file, from, n) {
+        return false;
+    }
+    overlaps::rows_apart(file, from, n)
 }

@@ -1,20 +1,24 @@
 -- The laws of lock strings. Two strings are the same exactly when their normal forms are equal.
 use Prim.Native.Nat.{ℕ, min, _+_, _-_, _≤_, _<_}
+use native.Mathlib.Nat.{add-zero}
 use native.Mathlib.Omega.{arith}
 use mathlib.Core.Path.{_≡_, refl, sym, ap, _∙_}
 use mathlib.Core.Bool.{true, _&&_}
-use mathlib.Core.List.{List, append-nil}
-use lib.Dec.{eqb, leb}
-use lib.ListN.{length, getD, take, drop, replicate, length-take, drop-of-length-le}
-use lib.Seq.{getD-take, take-at, take-all, drop-at}
+use mathlib.Core.List.{List, _++_, append-nil}
+use lib.Dec.{eqb, leb, lit≤}
+use lib.ListN.{length, getD, take, drop, replicate, length-take, length-drop, take-append-drop, drop-of-length-le}
+use lib.Seq.{take-at, take-all, drop-at}
 use borrow.Author.Tests.{eqb-true, eq-eqb, leb-true, leb-false}
 use Rattle.rows.proofs.BoolLaws.{by-test, and-left, and-right, and-both}
-use Rattle.rows.proofs.BuildLaws.{same-is, same-refl, drop-zeros}
-use Rattle.rows.proofs.RowLaws.{getD-part, part-part, length-over}
-use Rattle.rows.specs.Words.{same}
+use Rattle.rows.proofs.BuildLaws.{same-is, same-refl, zeros-is, drop-zeros}
+use Rattle.rows.proofs.RowLaws.{length-part, getD-part, part-part, length-over}
+use Rattle.rows.specs.Marks.{hash}
+use Rattle.rows.specs.Numbers.{lowFirst}
+use Rattle.rows.specs.Words.{same, zeros}
 use Rattle.rows.specs.Rows.{part, over}
 use Rattle.terms.specs.declared.LockString.{LockString}
 use Rattle.terms.specs.Strings.{stringAt, legal, key, sameString, normal}
+use Rattle.terms.specs.Shortcuts.{stringHash}
 
 -- a legal length
 pub legal-len : (s : LockString) → legal s ≡ true → (1 ≤ s .len) × (s .len ≤ 13)
@@ -41,6 +45,25 @@ key-used s full = by-test (leb (s .len) 13)
     (λ y. let short : min (s .len) 13 ≡ s .len = omega (arith, leb-true (s .len) 13 y) in ap (λ (n : ℕ). take n (s .bytes)) short)
     (λ n. take-all (min (s .len) 13) (s .bytes) (omega (arith, leb-false (s .len) 13 n)) ∙ sym (take-all (s .len) (s .bytes) (omega (arith, leb-false (s .len) 13 n))))
 
+-- they stand behind the length
+pub key-part : (l : List ℕ) (at : ℕ) → at + 14 ≤ length l → part l (at + 1) (min (getD l at 0) 13) ≡ key (stringAt l at)
+unfolding stringAt part
+key-part l at h =
+    let n : ℕ = min (getD l at 0) 13 in
+    ap (λ (a : ℕ). part l a n) (sym (add-zero (at + 1)))
+    ∙ sym (part-part l (at + 1) 13 0 n (omega arith))
+    ∙ key-used (stringAt l at) (length-part l (at + 1) 13 (omega arith))
+
+-- the hash of the string that stands in bytes, from where its bytes stand
+pub hash-string : (l : List ℕ) (at : ℕ) → stringHash (stringAt l at) ≡ hash (lowFirst (part l (at + 1) 4)) (lowFirst (part l (at + 5) 4)) (lowFirst (part l (at + 9) 4)) (getD l (at + 13) 0)
+unfolding stringAt stringHash
+hash-string l at =
+    let a : at + 1 + 0 ≡ at + 1 = omega arith in
+    let b : at + 1 + 4 ≡ at + 5 = omega arith in
+    let c : at + 1 + 8 ≡ at + 9 = omega arith in
+    let d : at + 1 + 12 ≡ at + 13 = omega arith in
+    rw (part-part l (at + 1) 13 0 4 (lit≤ tt), part-part l (at + 1) 13 4 4 (lit≤ tt), part-part l (at + 1) 13 8 4 (lit≤ tt), getD-part l (at + 1) 13 12 (lit≤ tt), a, b, c, d)
+
 -- sameness as a fact
 pub record Same (a b : LockString) : Type 0 where
   pub long : a .len ≡ b .len
@@ -59,16 +82,6 @@ is-same-string a b e = and-both (eq-eqb _ _ (e .long)) (rw (e .keys) (same-refl 
 
 pub same-string-refl : (a : LockString) → sameString a a ≡ true
 same-string-refl a = is-same-string a a (record { long = refl; keys = refl })
-
--- two strings that are the same have the same bytes
-pub same-byte : (l : List ℕ) (at : ℕ) (s : LockString) (k : ℕ) → k < min (s .len) 13 → sameString (stringAt l at) s ≡ true → getD l (at + 1 + k) 0 ≡ getD (s .bytes) k 0
-unfolding key stringAt
-same-byte l at s k b h =
-    let e = same-string-is (stringAt l at) s h in
-    sym (getD-part l (at + 1) 13 k (omega arith))
-    ∙ sym (getD-take (stringAt l at .len) (stringAt l at .bytes) k 0 (omega (arith, e .long)))
-    ∙ ap (λ (x : List ℕ). getD x k 0) (e .keys)
-    ∙ getD-take (s .len) (s .bytes) k 0 (omega arith)
 
 -- the same strings have one normal form
 pub same-normal : (a b : LockString) → sameString a b ≡ true → normal a ≡ normal b
@@ -141,3 +154,20 @@ module _ (s : LockString) (full : length (s .bytes) ≡ 13) where
       drop-at (key s) (drop (length (key s)) (replicate 13 0)) (s .len) long
       ∙ ap (λ (k : ℕ). drop k (replicate 13 0)) long
       ∙ drop-zeros 13 (s .len) short
+
+  -- a string with zeros after its length is its own normal form
+  pub zeros-normal : s .len ≤ 13 → zeros (drop (s .len) (s .bytes)) ≡ true → normal s ≡ s
+  unfolding normal key
+  zeros-normal short z = λ i. record { len = s .len; bytes = whole i }
+    where
+      rest : drop (s .len) (replicate 13 0) ≡ drop (s .len) (s .bytes)
+      rest =
+          let left : length (drop (s .len) (s .bytes)) ≡ 13 - s .len = length-drop (s .len) (s .bytes) ∙ omega arith in
+          drop-zeros 13 (s .len) short ∙ ap (λ (k : ℕ). replicate k 0) (sym left) ∙ sym (zeros-is (drop (s .len) (s .bytes)) z)
+
+      whole : over (key s) (replicate 13 0) ≡ s .bytes
+      whole =
+          let long : length (key s) ≡ s .len = length-key s ∙ omega arith in
+          ap (λ (k : ℕ). key s ++ drop k (replicate 13 0)) long
+          ∙ ap (λ (l : List ℕ). key s ++ l) rest
+          ∙ take-append-drop (s .len) (s .bytes)

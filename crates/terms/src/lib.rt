@@ -2,10 +2,11 @@
 // another is due. A lock string travels by value, as thirteen bytes beside its length.
 ghost use mathlib.Core.Path.{_≡_};
 ghost use mathlib.Core.Bool.{true, false};
-ghost use Prim.Native.Nat.{_+_, _≤_, min};
+ghost use Prim.Native.Nat.{_+_, _≤_, _<_, min};
 ghost use Rattle.rows.specs.Outcomes.{Gives};
 ghost use lib.ListN.{length};
-ghost use Rattle.terms.specs.Strings.{legal, stringAt, sameString, normal as normalOf};
+ghost use Rattle.terms.specs.Strings.{legal, stringAt, key, sameString, normal as normalOf};
+ghost use Rattle.terms.specs.Shortcuts.{stringHash};
 
 pub struct Volume(pub u8);
 
@@ -52,19 +53,6 @@ pub fn is_legal(s: LockString) -> bool
     len <= 13
 }
 
-// The two are one string: what stands after the length does not count.
-pub fn same_string(a: LockString, b: LockString) -> bool
-    ensures { λ r. ⌜ Gives (sameString a b) r ⌝ }
-{
-    if a.len != b.len {
-        return false;
-    }
-    let n = used(a.len);
-    let x = a.bytes;
-    let y = b.bytes;
-    rows::is_same(&x[..n], &y[..n])
-}
-
 // The string that stands at `at`, its length first, by value.
 pub fn string_at(bytes: &[u8], at: usize) -> LockString
     requires { ⌜ at + 14 ≤ length (now bytes) ⌝ }
@@ -76,21 +64,32 @@ pub fn string_at(bytes: &[u8], at: usize) -> LockString
     }
 }
 
-// The last byte of that string is not the last of s, where both are as long as s.
-fn ends_differ(bytes: &[u8], at: usize, s: LockString) -> bool
+// The bytes of the string that stands at `at`, as many as its length says, where they stand.
+fn key_at(bytes: &[u8], at: usize) -> &[u8]
     requires { ⌜ at + 14 ≤ length (now bytes) ⌝ }
-    ensures { λ r. ⌜ (r ≡ true → sameString (stringAt (now (bytes .entry)) at) s ≡ false) ⌝ }
+    ensures { λ r. ⌜ now r ≡ key (stringAt (now (bytes .entry)) at) ⌝ }
 {
-    let end = used(s.len);
-    if end < 1 {
-        return false;
-    }
-    let own = s.bytes;
-    bytes[at + end] != own[end - 1]
+    rows::part(bytes, at + 1, used(bytes[at]))
 }
 
-// That string and s are one. Records of one file mostly differ in their last byte, so that length and last byte are tested
-// before the string is read out.
+fn wide(b: u8) -> u32
+    ensures { λ r. ⌜ r ≡ b ⌝ }
+{
+    b as u32
+}
+
+// The hash of the string that stands at `at`: of its thirteen bytes, those after its length too.
+pub fn hash_at(bytes: &[u8], at: usize) -> usize
+    requires { ⌜ at + 14 ≤ length (now bytes) ⌝ }
+    ensures { λ r. ⌜ (r ≡ stringHash (stringAt (now (bytes .entry)) at)) × (r < 1024) ⌝ }
+{
+    let a = rows::four_at(bytes, at + 1);
+    let b = rows::four_at(bytes, at + 5);
+    let c = rows::four_at(bytes, at + 9);
+    rows::marks::hash(a, b, c, wide(bytes[at + 13]))
+}
+
+// That string and s are one: what stands after the length does not count. It is compared where it stands.
 pub fn is_string_at(bytes: &[u8], at: usize, s: LockString) -> bool
     requires { ⌜ at + 14 ≤ length (now bytes) ⌝ }
     ensures { λ r. ⌜ r ≡ sameString (stringAt (now (bytes .entry)) at) s ⌝ }
@@ -98,10 +97,9 @@ pub fn is_string_at(bytes: &[u8], at: usize, s: LockString) -> bool
     if bytes[at] != s.len {
         return false;
     }
-    if ends_differ(bytes, at, s) {
-        return false;
-    }
-    same_string(string_at(bytes, at), s)
+    let n = used(s.len);
+    let own = s.bytes;
+    rows::is_same(key_at(bytes, at), &own[..n])
 }
 
 // The string with zeros after its length.

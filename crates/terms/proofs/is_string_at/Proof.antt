@@ -1,41 +1,47 @@
-use Rattle.terms.specs.declared.LockString.{LockString}
-use Rattle.terms.specs.Strings.{stringAt, sameString}
-use borrow.Author.Tests.{ne-eqb}
-use mathlib.Core.Path.{sym, ap, _∙_}
+use Rattle.terms.proofs.StringLaws.{key-used}
+use Rattle.terms.specs.Strings.{stringAt, key, sameString}
+use Rattle.rows.specs.Words.{same}
+use borrow.Author.Tests.{eq-eqb, ne-eqb}
+use lib.ListN.{length, take, length-take}
+use mathlib.Core.Path.{_≡_, ap, ap₂, _∙_}
+use native.Mathlib.Omega.{arith}
+use Prim.Native.Nat.{ℕ}
 use borrow.Author.Needs.{needs}
 use Rattle.terms.proofs.is_string_at.Statement.{statement}
 use Rattle.terms.proofs.is_string_at.Tie as tie
-
-shared-slice-read-if1 : tie.Need-shared-slice-read-if1
-shared-slice-read-if1 c = search needs
 
 returns : tie.Need-returns
 unfolding sameString stringAt
 returns c = rw (ne-eqb _ _ (c .if1 .taken))
 
-ends-differ-requires : tie.Need-ends-differ-requires
-ends-differ-requires c κs = search needs
+array-share-prefix-own : tie.Need-array-share-prefix-own
+array-share-prefix-own c =
+    let full : length (c .before .before .before .before .before .before .before .args .s .bytes) ≡ 13 = search needs in
+    omega (arith, c .before .before .used .ensures)
+
+slice-aggregate-is-same : tie.Need-slice-aggregate-is-same
+slice-aggregate-is-same c =
+    let full : length (c .before .before .before .before .before .before .before .before .args .s .bytes) ≡ 13 = search needs in
+    simp length-take (omega (arith, c .before .before .before .used .ensures))
 
 returns-2 : tie.Need-returns-2
-returns-2 c = sym (c .before .ends-differ .ensures (c .if2 .taken))
-
-string-at-requires : tie.Need-string-at-requires
-string-at-requires c κs = search needs
-
-same-string-requires : tie.Need-same-string-requires
-same-string-requires c κs = search needs
-
-returns-3 : tie.Need-returns-3
-returns-3 c = c .same-string .ensures .answer ∙ ap (λ (x : LockString). sameString x (c .before .before .before .before .before .before .before .before .args .s)) (c .before .string-at .ensures)
+unfolding sameString stringAt
+returns-2 c =
+    let n = c .before .before .before .before in
+    let s = n .before .before .before .before .before .args .s in
+    let full : length (s .bytes) ≡ 13 = search needs in
+    let own : take (n .used .result) (s .bytes) ≡ key s = ap (λ (k : ℕ). take k (s .bytes)) (n .used .ensures) ∙ key-used s full in
+    rw (eq-eqb _ _ (n .before .if1 .left)) (c .is-same .ensures .answer ∙ ap₂ same (c .before .before .key-at .ensures) own)
 
 pub is-string-at-spec : {M : Type 1} → statement M
 is-string-at-spec =
     tie.close
     (tie.spec
-    shared-slice-read-if1
+    (λ c. search needs)
     returns
-    ends-differ-requires
-    returns-2
-    string-at-requires
-    same-string-requires
-    returns-3)
+    (λ c κs. search needs)
+    (λ c κs. search needs)
+    array-share-prefix-own
+    slice-aggregate-is-same
+    (λ c κs. search needs)
+    returns-2)

@@ -1,38 +1,55 @@
+use Rattle.locks.proofs.AloneLaws.{unseen-alone}
 use Rattle.locks.specs.Good.{aloneAt}
+use Rattle.locks.specs.Shortcuts.{hashAt}
 use Rattle.rows.proofs.IndexLaws.{Passing, pass-starts, pass-on, pass-breaks, pass-ends}
+use Rattle.rows.proofs.MarkLaws.{Marked, mark-starts, mark-adds}
+use Rattle.rows.specs.Marks.{marked}
 use borrow.Author.Tests.{not-true, not-false}
-use mathlib.Core.Path.{sym, _∙_}
+use denote.Ref.{now}
+use mathlib.Core.Path.{refl, sym, ap, _∙_}
 use native.Mathlib.Omega.{arith}
 use Prim.Native.Nat.{_-_}
 use Rattle.locks.proofs.rules.rows_alone.Statement.{statement}
 use Rattle.locks.proofs.rules.rows_alone.Tie as tie
 
 abbrev Inv-loop : tie.InvT-loop
-Inv-loop table n i₀ i = Passing (aloneAt table) n i
+Inv-loop table n map₀ i₀ map i = Passing (aloneAt table) n i × Marked 32 (hashAt table) map i
 
 abbrev μ-loop : tie.MeasureT-loop
-μ-loop table n i₀ i = n - i
+μ-loop table n map₀ i₀ map i = n - i
 
 loop-holds : tie.Need-loop-holds Inv-loop μ-loop
-loop-holds c = pass-starts _ _
+loop-holds c = (pass-starts _ _, mark-starts _ _ _ refl)
+
+slice-aggregate-mark : tie.Need-slice-aggregate-mark Inv-loop μ-loop
+slice-aggregate-mark c = sym (c .before .before .loop .inv .1 .0)
+
+mark-requires : tie.Need-mark-requires Inv-loop μ-loop
+mark-requires c κs = omega (arith, c .hash-of .ensures .1, c .before .before .before .loop .inv .1 .0)
 
 row-alone-requires : tie.Need-row-alone-requires Inv-loop μ-loop
-row-alone-requires c κs = omega arith
+row-alone-requires c κs =
+    let marks = c .before in
+    let turn = marks .before .before .before .before in
+    let start = turn .before .before in
+    let table = now (start .args .table) in
+    let map = turn .loop .map in
+    (omega arith, λ new. unseen-alone table _ (start .pre .1) 32 map (turn .loop .i) (marks .before .before .before .loop-test .taken) (turn .loop .inv .1) (ap (marked map) (sym (marks .before .hash-of .ensures .0)) ∙ sym (marks .mark .ensures .0) ∙ new))
 
 returns : tie.Need-returns Inv-loop μ-loop
-returns c = pass-breaks _ _ (c .before .before .loop-test .taken) (sym (c .before .row-alone .ensures) ∙ not-true _ (c .if1 .taken))
-
-add-i : tie.Need-add-i Inv-loop μ-loop
-add-i c = omega arith
-
-loop-less : tie.Need-loop-less Inv-loop μ-loop
-loop-less c = omega arith
+returns c = pass-breaks _ _ (c .before .before .before .before .before .before .loop-test .taken) (sym (c .before .row-alone .ensures) ∙ not-true _ (c .if1 .taken))
 
 loop-again : tie.Need-loop-again Inv-loop μ-loop
-loop-again c = pass-on _ _ (c .before .before .before .loop .inv) (c .before .before .loop-test .taken) (sym (c .before .row-alone .ensures) ∙ not-false _ (c .if1 .left))
+loop-again c =
+    let marks = c .before .before .before in
+    let test = marks .before .before .before in
+    let turn = test .before in (
+      pass-on _ _ (turn .loop .inv .0) (test .loop-test .taken) (sym (c .before .row-alone .ensures) ∙ not-false _ (c .if1 .left)),
+      mark-adds _ _ _ (turn .loop .inv .1) (marks .before .hash-of .ensures .0) (omega (arith, marks .before .hash-of .ensures .1)) (marks .mark .ensures .1),
+    )
 
 returns-2 : tie.Need-returns-2 Inv-loop μ-loop
-returns-2 c = pass-ends _ _ (c .before .loop .inv) (c .loop-test .left)
+returns-2 c = pass-ends _ _ (c .before .loop .inv .0) (c .loop-test .left)
 
 pub rows-alone-spec : {M : Type 1} → statement M
 rows-alone-spec =
@@ -41,9 +58,12 @@ rows-alone-spec =
     Inv-loop
     μ-loop
     loop-holds
+    slice-aggregate-mark
+    (λ c κs. omega arith)
+    mark-requires
     row-alone-requires
     returns
-    add-i
-    loop-less
+    (λ c. omega arith)
+    (λ c. omega arith)
     loop-again
     returns-2)

@@ -1,0 +1,230 @@
+/* The shapes of the bench's inputs. */
+#include "shapes.h"
+
+#include "reference.h"
+
+#include <stdio.h>
+#include <string.h>
+
+enum { HEADER = 8, USER_ROW = 16, PARTITION_ROW = 24, USERS = 128, PARTITIONS = 64 };
+
+/* How keys look beside each other. */
+enum keys {
+    NUMBERED,       /* CUSTOMER00042: they differ late */
+    EARLY,          /* 00042CUSTOMER: they differ early and end alike */
+    LAST,           /* STOCKCARD042X: they share the last byte too */
+    ANY,            /* random bytes, lock strings of random length */
+    ONE_HASH,       /* random bytes, all with one hash */
+    ONE_HASH_LAST   /* STOCKCARD...X, all with one hash */
+};
+
+/* How the partition rows lie. */
+enum rows {
+    SORTED,         /* on four volumes, each in the order of its sectors */
+    MIXED,          /* the same rows, mixed */
+    ONE_VOLUME      /* 64 of size 4 that fill one volume, mixed */
+};
+
+const struct shape shapes[SHAPES] = {
+    { "numbered", IN_ORDER },
+    { "numbered-mixed", IN_ORDER },
+    { "numbered-volume", IN_ORDER },
+    { "early-mixed", IN_ORDER },
+    { "last-mixed", IN_ORDER },
+    { "last-volume", IN_ORDER },
+    { "random-mixed", RANDOM },
+    { "hash-mixed", COLLIDING },
+    { "hash-last-volume", COLLIDING }
+};
+
+static const struct {
+    enum keys keys;
+    enum rows rows;
+} made[SHAPES] = {
+    { NUMBERED, SORTED }, { NUMBERED, MIXED }, { NUMBERED, ONE_VOLUME },
+    { EARLY, MIXED }, { LAST, MIXED }, { LAST, ONE_VOLUME },
+    { ANY, MIXED }, { ONE_HASH, MIXED }, { ONE_HASH_LAST, ONE_VOLUME }
+};
+
+/* ---- keys ---- */
+
+static uint32_t number_of(const uint8_t *bytes)
+{
+    return bytes[0] | (uint32_t)bytes[1] << 8 | (uint32_t)bytes[2] << 16 | (uint32_t)bytes[3] << 24;
+}
+
+/* The library's hash of a key of 8 or 13 bytes (crates/rows/specs/Marks.antt):
+ * known here only to make keys that collide. */
+static unsigned hash(const uint8_t *key, unsigned len)
+{
+    static const uint64_t weights[4] = { 811766591, 735356845, 227300033, 244215329 };
+    uint8_t bytes[16] = { 0 };
+    uint64_t sum = 0;
+    memcpy(bytes, key, len);
+    for (unsigned k = 0; k < 4; k++)
+        sum += weights[k] * number_of(bytes + 4 * k);
+    return (unsigned)(sum >> 22 & 1023);
+}
+
+static void in_words(uint8_t *key, unsigned len, const char *format, unsigned i)
+{
+    char text[32];
+    snprintf(text, sizeof text, format, i);
+    memcpy(key, text, len);
+}
+
+/* Draws until the key has the hash 0. */
+static void draw_hash(struct rng *rng, uint8_t *key, unsigned len, unsigned from, unsigned to)
+{
+    do
+        rng_bytes(rng, key + from, to - from);
+    while (hash(key, len) != 0);
+}
+
+/* Key i, of 8 or 13 bytes. */
+static void make_key(struct rng *rng, enum keys keys, uint8_t *key, unsigned len, unsigned i)
+{
+    int name = len == 8;
+    switch (keys) {
+    case NUMBERED: in_words(key, len, name ? "USER%04u" : "CUSTOMER%05u", i); break;
+    case EARLY:    in_words(key, len, name ? "%04uUSER" : "%05uCUSTOMER", i); break;
+    case LAST:     in_words(key, len, name ? "USR%04uX" : "STOCKCARD%03uX", i); break;
+    case ANY:      rng_bytes(rng, key, len); break;
+    case ONE_HASH: draw_hash(rng, key, len, 0, len); break;
+    default:
+        in_words(key, len, name ? "USR%04uX" : "STOCKCARD%03uX", 0);
+        draw_hash(rng, key, len, len - 5, len - 1);
+        break;
+    }
+}
+
+/* ---- the site file ---- */
+
+static void put16(uint8_t *bytes, unsigned number)
+{
+    bytes[0] = (uint8_t)(number & 0xFF);
+    bytes[1] = (uint8_t)(number >> 8 & 0xFF);
+}
+
+/* Partition row i: volume and number by turns, sizes 1 to 6 one after another. */
+static void lay_row(uint8_t *row, unsigned i, enum rows rows)
+{
+    static const unsigned firsts[6] = { 0, 2048, 6144, 14336, 30720, 63488 };
+    unsigned volume = i / 16, place = i % 16, size = 1 + place % 6;
+    uint32_t first = 131072u * (place / 6) + firsts[place % 6] + 129;
+    if (rows == ONE_VOLUME) {
+        volume = 2;
+        place = i;
+        size = 4;
+        first = 16384 * i;
+    }
+    row[14] = (uint8_t)volume;
+    row[15] = (uint8_t)place;
+    row[16] = (uint8_t)size;
+    row[17] = 1;
+    put16(row + 18, first & 0xFFFF);
+    put16(row + 20, first >> 16);
+}
+
+static void mix_rows(struct rng *rng, uint8_t *rows)
+{
+    uint8_t row[PARTITION_ROW];
+    for (unsigned i = PARTITIONS - 1; i > 0; i--) {
+        unsigned j = rng_below(rng, i + 1);
+        memcpy(row, rows + PARTITION_ROW * i, PARTITION_ROW);
+        memmove(rows + PARTITION_ROW * i, rows + PARTITION_ROW * j, PARTITION_ROW);
+        memcpy(rows + PARTITION_ROW * j, row, PARTITION_ROW);
+    }
+}
+
+static void make_site(struct rng *rng, struct site *site, enum keys keys, enum rows rows)
+{
+    uint8_t *users = site->bytes + HEADER, *partitions = users + USER_ROW * USERS;
+    memset(site->bytes, 0, SITE_ROOM);
+    put16(site->bytes, USERS);
+    put16(site->bytes + 2, HEADER);
+    put16(site->bytes + 4, PARTITIONS);
+    put16(site->bytes + 6, HEADER + USER_ROW * USERS);
+    site->len = HEADER + USER_ROW * USERS + PARTITION_ROW * PARTITIONS;
+    for (unsigned i = 0; i < USERS; i++) {
+        make_key(rng, keys, users + USER_ROW * i, 8, i);
+        memcpy(users + USER_ROW * i + 8, "SECRET", 6);
+    }
+    for (unsigned i = 0; i < PARTITIONS; i++)
+        lay_row(partitions + PARTITION_ROW * i, i, rows);
+    if (rows != SORTED)
+        mix_rows(rng, partitions);
+    for (unsigned i = 0; i < PARTITIONS; i++) {
+        make_key(rng, keys, partitions + PARTITION_ROW * i, 8, i);
+        memcpy(partitions + PARTITION_ROW * i + 8, "SECRET", 6);
+    }
+}
+
+/* ---- tables and states ---- */
+
+/* The strings: of 13 bytes, but for random ones, whose lengths are random. */
+static void make_strings(struct rng *rng, struct inputs *inputs, enum keys keys)
+{
+    for (unsigned i = 0; i < 65; i++) {
+        uint8_t *string = inputs->strings[i];
+        memset(string, 0, 14);
+        string[0] = (uint8_t)(keys == ANY ? 3 + rng_below(rng, 11) : 13);
+        make_key(rng, keys, string + 1, 13, i);
+        memset(string + 1 + string[0], 0, 13u - string[0]);
+    }
+}
+
+static void serve(struct inputs *inputs, struct tables *tables, uint32_t number,
+                  const uint8_t *frame, size_t len)
+{
+    ref_frame(number, frame, len, inputs->site.bytes, inputs->site.len,
+              tables->locks, LOCKS, tables->stations, STATIONS);
+}
+
+static void make_tables(struct inputs *inputs, struct tables *tables,
+                        unsigned logins, unsigned strings)
+{
+    uint8_t frame[20];
+    ref_fresh(tables->locks, LOCKS, tables->stations, STATIONS);
+    for (unsigned i = 0; i < logins; i++) {
+        memset(frame, 0, sizeof frame);
+        frame[0] = CODE_LOGIN;
+        memcpy(frame + 1, site_user(&inputs->site, i), 14);
+        serve(inputs, tables, 253, frame, 20);
+    }
+    for (unsigned i = 0; i < strings; i++) {
+        frame[0] = CODE_LOCK;
+        memcpy(frame + 1, inputs->strings[i], 14);
+        serve(inputs, tables, i, frame, 15);
+    }
+}
+
+/* So many locks listed, and the one after them awaited or not. */
+static void make_state(const struct inputs *inputs, struct state *state,
+                       unsigned listed, int waits)
+{
+    memset(state, 0, sizeof *state);
+    state->len = STATE_LEN;
+    for (unsigned i = 0; i < listed; i++)
+        memcpy(state->bytes + 14 * i, inputs->strings[i], 14);
+    if (!waits)
+        return;
+    state->bytes[STATE_AWAITED] = CODE_LOCK;
+    memcpy(state->bytes + STATE_AWAITED + 1, inputs->strings[listed], 14);
+}
+
+void shape_inputs(unsigned i, struct inputs *inputs)
+{
+    struct rng rng = rng_from(1982 + i);
+    make_site(&rng, &inputs->site, made[i].keys, made[i].rows);
+    make_strings(&rng, inputs, made[i].keys);
+    make_tables(inputs, &inputs->empty, 1, 0);
+    make_tables(inputs, &inputs->full, 63, 64);
+    inputs->last = inputs->full;
+    inputs->last.stations[63 * 18 + 1] = 255;
+    inputs->last.stations[63 * 18 + 3] = 11;
+    make_state(inputs, &inputs->idle_empty, 0, 0);
+    make_state(inputs, &inputs->idle_full, 64, 0);
+    make_state(inputs, &inputs->waits_empty, 0, 1);
+    make_state(inputs, &inputs->waits_full, 63, 1);
+}
