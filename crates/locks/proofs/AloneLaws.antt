@@ -1,28 +1,26 @@
--- A row whose hash is in no earlier row holds a string that is in none, where zeros stand after the strings.
+-- The rows of the lock table as the search and the check of strings in `terms` see them.
 use Prim.Native.Nat.{ℕ, _+_, _*_, _-_, _≤_, _<_}
-use native.Mathlib.Nat.{lt-trans}
+use native.Mathlib.Nat.{add-zero}
 use native.Mathlib.Omega.{arith}
-use mathlib.Core.Path.{_≡_, sym, ap, _∙_}
-use mathlib.Core.Bool.{true, false, not, or-true}
+use mathlib.Core.Path.{_≡_, sym, ap, ap₂, _∙_}
+use mathlib.Core.Bool.{Bool, true, false, not, _&&_, _||_}
 use mathlib.Core.List.{List}
+use lib.Dec.{eqb, lit<}
 use lib.ListN.{length, getD, drop, length-drop}
 use lib.Seq.{getD-drop}
 use borrow.Author.Tests.{eqb-true, eq-eqb}
-use Rattle.rows.proofs.BoolLaws.{by-test}
 use Rattle.rows.proofs.IndexLaws.{all-at, all-from}
-use Rattle.rows.proofs.MarkLaws.{Marked, unmarked-new}
 use Rattle.rows.proofs.RowLaws.{length-part, getD-part}
-use Rattle.rows.specs.Marks.{marked}
 use Rattle.rows.specs.Rows.{part, row}
-use Rattle.rows.specs.Words.{all, zeros, zeroAt}
-use Rattle.terms.proofs.StringLaws.{legal-len, same-normal, zeros-normal}
-use Rattle.terms.specs.Shortcuts.{stringHash}
-use Rattle.terms.specs.Strings.{normal}
-use Rattle.locks.specs.Row.{stringOf, isFree, holds}
+use Rattle.rows.specs.Words.{any, zeros, zeroAt}
+use Rattle.terms.proofs.StringLaws.{legal-len, zeros-normal}
+use Rattle.terms.specs.declared.LockString.{LockString}
+use Rattle.terms.specs.Strings.{stringAt, sameString, normal}
+use Rattle.terms.specs.Tables.{rowFree, rowString, rowHolds, rowAlone}
+use Rattle.locks.specs.Row.{owner, stringOf, lockRows, isFree, holds}
 use Rattle.locks.specs.Table.{holdsAt, freeAt}
-use Rattle.locks.specs.Shortcuts.{hashAt}
 use Rattle.locks.specs.Good.{aloneAt, goodRow}
-use Rattle.locks.proofs.LockRowLaws.{string-full, holds-is, good-used}
+use Rattle.locks.proofs.LockRowLaws.{row-string, string-full, good-used}
 
 -- in a good used row the string stands in its normal form
 module _ (w r : List ℕ) (long : length r ≡ 16) (good : goodRow w r ≡ true) (used : isFree r ≡ false) where
@@ -31,7 +29,7 @@ module _ (w r : List ℕ) (long : length r ≡ 16) (good : goodRow w r ≡ true)
 
   -- byte k after the string, among the string's bytes and among the row's
   after : (k : ℕ) → k < 13 - stringOf r .len → getD (drop (stringOf r .len) (stringOf r .bytes)) k 0 ≡ 0
-  unfolding stringOf zeros zeroAt
+  unfolding stringOf stringAt zeros zeroAt
   after k l =
       let n = getD r 1 0 in
       let rest = part r (2 + n) (14 - n) in
@@ -49,19 +47,26 @@ module _ (w r : List ℕ) (long : length r ≡ 16) (good : goodRow w r ≡ true)
       zeros-normal (stringOf r) (string-full r long) short
       (all-from (zeroAt bytes) (length bytes) (λ k l. eq-eqb _ _ (after k (omega (arith, length-drop (stringOf r .len) (stringOf r .bytes), string-full r long)))))
 
--- rows below n whose strings stand in their normal form
-module _ (t : List ℕ) (n : ℕ) (plain : (i : ℕ) → i < n → freeAt t i ≡ false → normal (stringOf (row 16 t i)) ≡ stringOf (row 16 t i)) where
-  -- rows with the same string have the same hash
-  hash-same : (i j : ℕ) → i < n → j < n → freeAt t i ≡ false → holdsAt t (stringOf (row 16 t i)) j ≡ true → hashAt t j ≡ hashAt t i
-  unfolding holdsAt hashAt freeAt
-  hash-same i j li lj used h =
-      let a = stringOf (row 16 t j) in
-      let b = stringOf (row 16 t i) in
-      let held = holds-is b (row 16 t j) h in
-      ap stringHash (sym (plain j lj (held .used)) ∙ same-normal a b (held .string) ∙ plain i li used)
+-- the rows as the search and the check of strings see them
+module _ (t : List ℕ) (i : ℕ) where
+  owner-row : getD t (16 * i) 0 ≡ getD (row 16 t i) 0 0
+  owner-row = ap (λ (k : ℕ). getD t k 0) (sym (add-zero (16 * i))) ∙ sym (getD-part t (16 * i) 16 0 (lit< tt))
 
-  pub unseen-alone : (w : ℕ) (map : List ℕ) (i : ℕ) → i < n → Marked w (hashAt t) map i → marked map (hashAt t i) ≡ false → aloneAt t i ≡ true
-  unfolding aloneAt
-  unseen-alone w map i l m new = by-test (freeAt t i)
-      (λ f. rw f)
-      (λ u. rw (u, unmarked-new w (hashAt t) map m (holdsAt t (stringOf (row 16 t i))) (hashAt t i) (λ j b. hash-same i j l (lt-trans b l) u) new))
+  pub free-row : rowFree lockRows t i ≡ freeAt t i
+  unfolding rowFree freeAt isFree owner
+  free-row = ap (λ (k : ℕ). eqb k 0xFF) owner-row
+
+  pub string-row : rowString lockRows t i ≡ stringOf (row 16 t i)
+  unfolding rowString
+  string-row = row-string t i
+
+  held-row : (s : LockString) → rowHolds lockRows t s i ≡ holdsAt t s i
+  unfolding rowHolds holdsAt holds freeAt
+  held-row s = ap₂ (λ (a : Bool) (x : LockString). not a && sameString x s) free-row string-row
+
+pub held-holds : (t : List ℕ) (s : LockString) → rowHolds lockRows t s ≡ holdsAt t s
+held-holds t s = λ d i. held-row t i s d
+
+pub alone-rows : (t : List ℕ) → rowAlone lockRows t ≡ aloneAt t
+unfolding rowAlone aloneAt
+alone-rows t = λ d i. free-row t i d || not (any (held-holds t (string-row t i d) d) i)

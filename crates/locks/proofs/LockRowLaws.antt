@@ -31,7 +31,7 @@ row-string t i = sym (string-inside t (16 * i) 16 1 (lit≤ tt))
 
 -- the string of a row has thirteen bytes
 pub string-full : (r : List ℕ) → length r ≡ 16 → length (stringOf r .bytes) ≡ 13
-unfolding stringOf
+unfolding stringOf stringAt
 string-full r h = length-part r 2 13 (omega arith)
 
 -- a row that holds a string
@@ -80,7 +80,7 @@ module _ (who : ℕ) (s : LockString) where
     length-rowOf = simp (length-append, length-normal s full)
 
     pub string-rowOf : stringOf (rowOf who s) ≡ normal s
-    unfolding stringOf rowOf part normal
+    unfolding stringOf stringAt rowOf part normal
     string-rowOf = λ i. record { len = s .len; bytes = take-at (normal s .bytes) (0 ∷ []) 13 (length-normal s full) i }
 
     pub holds-rowOf : (who ≡ 0xFF → ⊥) → (x : LockString) → holds x (rowOf who s) ≡ sameString s x

@@ -4,15 +4,19 @@ use mathlib.Core.Bool.{Bool, cond, not, _&&_}
 use mathlib.Core.List.{List, [], _∷_, _++_}
 use lib.Dec.{eqb}
 use lib.ListN.{getD, replicate}
-use Rattle.rows.specs.Rows.{part}
+use Rattle.terms.specs.declared.table.Shape.{Shape}
 use Rattle.terms.specs.declared.LockString.{LockString}
-use Rattle.terms.specs.Strings.{sameString, normal}
+use Rattle.terms.specs.Strings.{stringAt, sameString, normal}
 
 unfoldable pub owner : List ℕ → ℕ
 owner r = getD r 0 0
 
 unfoldable pub stringOf : List ℕ → LockString
-stringOf r = record { len = getD r 1 0; bytes = part r 2 13 }
+stringOf r = stringAt r 1
+
+-- how the table's rows hold their strings
+abbrev pub lockRows : Shape
+lockRows = record { width = 16; string = 1; free = 0xFF }
 
 -- a free row has owner FF and zeros
 abbrev pub freeRow : List ℕ

@@ -1,14 +1,15 @@
 // One row of the lock table, and the search for a string.
 use crate::ROW;
 use terms::LockString;
+use terms::table;
+use terms::table::Shape;
 ghost use mathlib.Core.Path.{_≡_};
 ghost use Prim.Native.Nat.{_+_, _*_, _≤_, _<_};
 ghost use lib.ListN.{length};
 ghost use Rattle.rows.specs.Words.{first};
 ghost use Rattle.rows.specs.Rows.{row as rowAt, setRow};
-ghost use Rattle.locks.specs.Row.{stringOf, rowOf};
+ghost use Rattle.locks.specs.Row.{lockRows, rowOf};
 ghost use Rattle.locks.specs.Table.{holdsAt, freeAt, ownerAt};
-ghost use Rattle.locks.specs.Shortcuts.{hashAt};
 
 // The owner of row i.
 pub fn owner_of(table: &[u8], i: usize) -> u8
@@ -26,31 +27,15 @@ pub fn is_free(table: &[u8], i: usize) -> bool
     owner_of(table, i) == 0xFF
 }
 
-// The string of row i, by value.
-pub fn string_of(table: &[u8], i: usize) -> LockString
-    requires { ⌜ 16 * i + 16 ≤ length (now table) ⌝ }
-    ensures { λ s. ⌜ s ≡ stringOf (rowAt 16 (now (table .entry)) i) ⌝ }
+// How the rows hold their strings.
+pub fn shape() -> Shape
+    ensures { λ r. ⌜ r ≡ lockRows ⌝ }
 {
-    terms::string_at(table, ROW * i + 1)
-}
-
-// The hash of the string of row i.
-pub fn hash_of(table: &[u8], i: usize) -> usize
-    requires { ⌜ 16 * i + 16 ≤ length (now table) ⌝ }
-    ensures { λ r. ⌜ (r ≡ hashAt (now (table .entry)) i) × (r < 1024) ⌝ }
-{
-    terms::hash_at(table, ROW * i + 1)
-}
-
-// Row i is used and holds s.
-fn holds(table: &[u8], i: usize, s: LockString) -> bool
-    requires { ⌜ 16 * i + 16 ≤ length (now table) ⌝ }
-    ensures { λ r. ⌜ r ≡ holdsAt (now (table .entry)) s i ⌝ }
-{
-    if is_free(table, i) {
-        return false;
+    Shape {
+        width: ROW,
+        string: 1,
+        free: 0xFF,
     }
-    terms::is_string_at(table, ROW * i + 1, s)
 }
 
 // The first of n rows that holds s, or n.
@@ -58,14 +43,7 @@ pub fn find_string(table: &[u8], n: usize, s: LockString) -> usize
     requires { ⌜ 16 * n ≤ length (now table) ⌝ }
     ensures { λ r. ⌜ r ≡ first (holdsAt (now (table .entry)) s) n ⌝ }
 {
-    let mut i: usize = 0;
-    while i < n {
-        if holds(table, i, s) {
-            return i;
-        }
-        i += 1;
-    }
-    n
+    table::find(table, shape(), n, s)
 }
 
 // The row of `who` that holds s.

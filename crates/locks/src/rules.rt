@@ -1,8 +1,9 @@
 // The rules of the lock table, row by row.
 use crate::ROW;
 use crate::row;
+use terms::table;
 ghost use mathlib.Core.Path.{_≡_};
-ghost use mathlib.Core.Bool.{true, false};
+ghost use mathlib.Core.Bool.{false};
 ghost use Prim.Native.Nat.{ℕ, _+_, _*_, _≤_, _<_};
 ghost use lib.ListN.{length};
 ghost use Rattle.rows.specs.Words.{all};
@@ -54,36 +55,11 @@ pub fn rows_good(table: &[u8], n: usize, records: &[u8]) -> bool
     true
 }
 
-// Row i is free, or no earlier row holds its string: where its hash was not seen in an earlier row, none does.
-fn row_alone(table: &[u8], i: usize, seen: bool) -> bool
-    requires { ⌜ 16 * i + 16 ≤ length (now table) ⌝ }
-    requires { ⌜ (seen ≡ false → aloneAt (now table) i ≡ true) ⌝ }
-    ensures { λ b. ⌜ b ≡ aloneAt (now (table .entry)) i ⌝ }
-{
-    if !seen {
-        return true;
-    }
-    if row::is_free(table, i) {
-        return true;
-    }
-    i <= row::find_string(table, i, row::string_of(table, i))
-}
-
-// No two of the first n rows hold the same string, where zeros stand after each. The hash of each row is marked, and only a
-// row whose hash was marked before is compared with the rows before it.
+// No two of the first n rows hold the same string, where zeros stand after each.
 pub fn rows_alone(table: &[u8], n: usize) -> bool
     requires { ⌜ 16 * n ≤ length (now table) ⌝ }
     requires { ⌜ ((i : ℕ) → i < n → freeAt (now table) i ≡ false → normal (stringOf (rowAt 16 (now table) i)) ≡ stringOf (rowAt 16 (now table) i)) ⌝ }
     ensures { λ b. ⌜ b ≡ all (aloneAt (now (table .entry))) n ⌝ }
 {
-    let mut map = [0u32; 32];
-    let mut i: usize = 0;
-    while i < n {
-        let seen = rows::marks::mark(&mut map, row::hash_of(table, i));
-        if !row_alone(table, i, seen) {
-            return false;
-        }
-        i += 1;
-    }
-    true
+    table::rows_alone(table, row::shape(), n)
 }

@@ -1,11 +1,12 @@
 // The terms of the rules as types. Volume, partition, track and sector are four types, so that none can be passed where
 // another is due. A lock string travels by value, as thirteen bytes beside its length.
+pub mod table;
+
 ghost use mathlib.Core.Path.{_≡_};
-ghost use mathlib.Core.Bool.{true, false};
 ghost use Prim.Native.Nat.{_+_, _≤_, _<_, min};
 ghost use Rattle.rows.specs.Outcomes.{Gives};
 ghost use lib.ListN.{length};
-ghost use Rattle.terms.specs.Strings.{legal, stringAt, key, sameString, normal as normalOf};
+ghost use Rattle.terms.specs.Strings.{legal, stringAt, key, normal as normalOf};
 ghost use Rattle.terms.specs.Shortcuts.{stringHash};
 
 pub struct Volume(pub u8);
@@ -79,7 +80,7 @@ fn wide(b: u8) -> u32
 }
 
 // The hash of the string that stands at `at`: of its thirteen bytes, those after its length too.
-pub fn hash_at(bytes: &[u8], at: usize) -> usize
+fn hash_at(bytes: &[u8], at: usize) -> usize
     requires { ⌜ at + 14 ≤ length (now bytes) ⌝ }
     ensures { λ r. ⌜ (r ≡ stringHash (stringAt (now (bytes .entry)) at)) × (r < 1024) ⌝ }
 {
@@ -87,19 +88,6 @@ pub fn hash_at(bytes: &[u8], at: usize) -> usize
     let b = rows::four_at(bytes, at + 5);
     let c = rows::four_at(bytes, at + 9);
     rows::marks::hash(a, b, c, wide(bytes[at + 13]))
-}
-
-// That string and s are one: what stands after the length does not count. It is compared where it stands.
-pub fn is_string_at(bytes: &[u8], at: usize, s: LockString) -> bool
-    requires { ⌜ at + 14 ≤ length (now bytes) ⌝ }
-    ensures { λ r. ⌜ r ≡ sameString (stringAt (now (bytes .entry)) at) s ⌝ }
-{
-    if bytes[at] != s.len {
-        return false;
-    }
-    let n = used(s.len);
-    let own = s.bytes;
-    rows::is_same(key_at(bytes, at), &own[..n])
 }
 
 // The string with zeros after its length.

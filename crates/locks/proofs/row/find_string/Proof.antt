@@ -1,48 +1,37 @@
-use Rattle.locks.specs.Table.{holdsAt}
-use Rattle.rows.proofs.IndexLaws.{Searching, search-starts, search-on, search-hit, search-ends}
-use native.Mathlib.Omega.{arith}
-use mathlib.Core.Path.{sym, _∙_}
-use Prim.Native.Nat.{_-_}
+use Rattle.locks.proofs.AloneLaws.{held-holds}
+use Rattle.locks.specs.Row.{lockRows}
+use Rattle.terms.specs.declared.table.Shape.{Shape}
+use Rattle.terms.specs.Tables.{rowHolds}
+use Rattle.rows.specs.Words.{first}
+use denote.Ref.{now}
+use lib.Dec.{lit≤}
+use mathlib.Core.Bool.{Bool}
+use mathlib.Core.Path.{ap, _∙_}
+use Prim.Native.Nat.{ℕ}
+use borrow.Author.Needs.{needs}
 use Rattle.locks.proofs.row.find_string.Statement.{statement}
 use Rattle.locks.proofs.row.find_string.Tie as tie
+use Rattle.locks.proofs.row.find_string.Reads as reads
+use Rattle.locks.proofs.row.find_string.Lts as lts
+use Rattle.locks.proofs.row.shape.Reads as shape-reads
+use Rattle.terms.proofs.table.find.Reads as find-reads
 
-abbrev Inv-loop : tie.InvT-loop
-Inv-loop table n s i₀ i = Searching (holdsAt table s) n i
+-- src/row.rt:46:24
+shape-requires : tie.Need-shape-requires
+shape-requires c κs = search needs
 
-abbrev μ-loop : tie.MeasureT-loop
-μ-loop table n s i₀ i = n - i
+-- src/row.rt:46:5
+find-requires : tie.Need-find-requires
+find-requires c κs = rw (c .shape .ensures) (c .before .before .pre, lit≤ tt)
 
-loop-holds : tie.Need-loop-holds Inv-loop μ-loop
-loop-holds c = search-starts _ _
-
-holds-requires : tie.Need-holds-requires Inv-loop μ-loop
-holds-requires c κs = omega arith
-
-returns : tie.Need-returns Inv-loop μ-loop
-returns c = search-hit _ _ (c .before .before .before .loop .inv) (c .before .before .loop-test .taken) (sym (c .before .holds .ensures) ∙ c .if1 .taken)
-
-add-i : tie.Need-add-i Inv-loop μ-loop
-add-i c = omega arith
-
-loop-less : tie.Need-loop-less Inv-loop μ-loop
-loop-less c = omega arith
-
-loop-again : tie.Need-loop-again Inv-loop μ-loop
-loop-again c = search-on _ _ (c .before .before .before .loop .inv) (c .before .before .loop-test .taken) (sym (c .before .holds .ensures) ∙ c .if1 .left)
-
-returns-2 : tie.Need-returns-2 Inv-loop μ-loop
-returns-2 c = search-ends _ _ (c .before .loop .inv) (c .loop-test .left)
+-- src/row.rt:42:1
+returns : tie.Need-returns
+returns c = 
+    let a = c .before .before .before .args in
+    let t = now (a .table) in
+    c .find .ensures
+    ∙ ap (λ (shape : Shape). first (rowHolds shape t (a .s)) (a .n)) (c .before .shape .ensures)
+    ∙ ap (λ (p : ℕ → Bool). first p (a .n)) (held-holds t (a .s))
 
 pub find-string-spec : {M : Type 1} → statement M
-find-string-spec =
-    tie.close
-    (tie.spec
-    Inv-loop
-    μ-loop
-    loop-holds
-    holds-requires
-    returns
-    add-i
-    loop-less
-    loop-again
-    returns-2)
+find-string-spec = tie.close (tie.spec shape-requires find-requires returns)

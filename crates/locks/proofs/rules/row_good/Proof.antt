@@ -1,7 +1,7 @@
 use Rattle.locks.specs.Good.{soundRow}
 use Rattle.locks.specs.Row.{owner, stringOf, isFree}
 use Rattle.who.specs.Logins.{loggedIn}
-use Rattle.terms.specs.Strings.{legal}
+use Rattle.terms.specs.Strings.{stringAt, legal}
 use Rattle.rows.specs.Rows.{part}
 use Rattle.rows.specs.Words.{zeros}
 use borrow.Author.Tests.{eq-eqb, ne-eqb, le-leb, lt-leb, not-true, not-false}
@@ -45,11 +45,11 @@ wide-requires-2 : tie.Need-wide-requires-2
 wide-requires-2 c κs = search needs
 
 returns-3 : tie.Need-returns-3
-unfolding soundRow isFree owner legal stringOf
+unfolding soundRow isFree owner legal stringOf stringAt
 returns-3 c = rw (ne-eqb _ _ (c .before .before .before .before .before .before .before .if1 .left), sym (ap (loggedIn (now (c .before .before .before .before .before .before .before .before .before .before .before .args .records))) (c .before .before .before .before .before .wide .ensures .0)) ∙ sym (c .before .before .before .before .is-in .ensures .answer) ∙ not-false _ (c .before .before .before .if2 .left), lt-leb 1 _ (rw (c .before .wide2 .ensures .0) at (c .if3 .taken)))
 
 returns-4 : tie.Need-returns-4
-unfolding soundRow isFree owner legal stringOf
+unfolding soundRow isFree owner legal stringOf stringAt
 returns-4 c = let len = c .before .before .wide2 .ensures .0 in
     rw (ne-eqb _ _ (c .before .before .before .before .before .before .before .before .if1 .left), sym (ap (loggedIn (now (c .before .before .before .before .before .before .before .before .before .before .before .before .args .records))) (c .before .before .before .before .before .before .wide .ensures .0)) ∙ sym (c .before .before .before .before .before .is-in .ensures .answer) ∙ not-false _ (c .before .before .before .before .if2 .left), le-leb 1 _ (rw len at (c .before .if3 .left)), lt-leb _ 13 (rw len at (c .if4 .taken)))
 
@@ -66,7 +66,7 @@ is-zero-requires-2 : tie.Need-is-zero-requires-2
 is-zero-requires-2 c κs = search needs
 
 returns-5 : tie.Need-returns-5
-unfolding soundRow isFree owner legal stringOf
+unfolding soundRow isFree owner legal stringOf stringAt
 returns-5 c = let len = c .before .before .before .before .wide2 .ensures .0 in
     let r = now (c .before .before .before .before .before .before .before .before .before .before .before .before .before .before .args .r) in
     rw (ne-eqb _ _ (c .before .before .before .before .before .before .before .before .before .before .if1 .left), sym (ap (loggedIn (now (c .before .before .before .before .before .before .before .before .before .before .before .before .before .before .args .records))) (c .before .before .before .before .before .before .before .before .wide .ensures .0)) ∙ sym (c .before .before .before .before .before .before .before .is-in .ensures .answer) ∙ not-false _ (c .before .before .before .before .before .before .if2 .left), le-leb 1 _ (rw len at (c .before .before .before .if3 .left)), le-leb _ 13 (rw len at (c .before .before .if4 .left)))

@@ -1,0 +1,83 @@
+use Rattle.terms.proofs.TableLaws.{key-held}
+use Rattle.terms.specs.Shortcuts.{rowHasKey}
+use Rattle.terms.specs.Strings.{stringAt}
+use Rattle.terms.specs.Tables.{rowString, rowAlone}
+use Rattle.rows.proofs.IndexLaws.{first-misses}
+use Rattle.rows.specs.Words.{first}
+use borrow.Author.Tests.{not-true}
+use denote.Ref.{now}
+use lib.Dec.{leb}
+use lib.ListN.{getD}
+use mathlib.Core.Bool.{Bool}
+use mathlib.Core.List.{List}
+use mathlib.Core.Path.{sym, ap, _∙_}
+use Prim.Native.Nat.{ℕ, _+_, _*_}
+use borrow.Author.Needs.{needs}
+use Rattle.terms.proofs.table.row_alone.Statement.{statement}
+use Rattle.terms.proofs.table.row_alone.Tie as tie
+use Rattle.terms.proofs.table.row_alone.Reads as reads
+use Rattle.terms.proofs.table.row_alone.Lts as lts
+use Rattle.terms.proofs.key_at.Reads as key-at-reads
+use Rattle.terms.proofs.table.find_key.Reads as find-key-reads
+use Rattle.terms.proofs.table.is_free.Reads as is-free-reads
+
+-- src/table.rt:88:9
+returns : tie.Need-returns
+returns c = sym (c .before .before .pre .1 .1 (not-true _ (c .if1 .taken)))
+
+-- src/table.rt:90:9
+is-free-requires : tie.Need-is-free-requires
+is-free-requires c κs = search needs
+
+-- src/table.rt:91:9
+returns-2 : tie.Need-returns-2
+unfolding rowAlone
+returns-2 c = rw (sym (c .before .is-free .ensures) ∙ c .if2 .taken)
+
+-- src/table.rt:93:14
+mul-at : tie.Need-mul-at
+mul-at c = search needs
+
+-- src/table.rt:93:14
+add-at : tie.Need-add-at
+add-at c = search needs
+
+-- src/table.rt:94:36
+shared-slice-read-find-key : tie.Need-shared-slice-read-find-key
+shared-slice-read-find-key c = search needs
+
+-- src/table.rt:94:47
+key-at-requires : tie.Need-key-at-requires
+key-at-requires c κs = search needs
+
+-- src/table.rt:94:10
+find-key-requires : tie.Need-find-key-requires
+find-key-requires c κs = search needs
+
+-- src/table.rt:81:1
+returns-3 : tie.Need-returns-3
+unfolding rowAlone rowString stringAt
+returns-3 c = 
+    let test = c .before .before .before .before .before in
+    let a = test .before .before .before .before .args in
+    let t = now (a .table) in
+    let at = a .shape .width * a .i + a .shape .string in
+    rw (sym (test .before .is-free .ensures) ∙ test .if2 .left)
+    (ap (leb (a .i)) (c .find-key .ensures
+    ∙ ap (λ (k : List ℕ). first (rowHasKey (a .shape) t (getD t at 0) k) (a .i)) (c .before .key-at .ensures)
+    ∙ ap (λ (p : ℕ → Bool). first p (a .i)) (key-held (a .shape) t (stringAt t at)))
+    ∙ first-misses _ _)
+
+pub row-alone-spec : {M : Type 1} → statement M
+row-alone-spec =
+    tie.close
+    (tie.spec
+    returns
+    is-free-requires
+    returns-2
+    mul-at
+    add-at
+    shared-slice-read-find-key
+    key-at-requires
+    find-key-requires
+    returns-3)
