@@ -3,10 +3,10 @@ use mathlib.Core.Path.{_≡_, refl}
 use Rattle.rows.specs.Words.{all, any, first, sameAt, same, zeroAt, zeros}
 use Rattle.rows.specs.Rows.{part, put, copies, eachRow}
 use Rattle.rows.specs.Numbers.{lowFirst, lowBytes}
-use Rattle.terms.specs.Strings.{legal, key, sameString, normal}
+use Rattle.terms.specs.Strings.{stringAt, legal, key, sameString, normal}
 use Rattle.frames.specs.Table.{frameTable, lengthIn, frameLength, carriesAddress}
 use Rattle.frames.specs.Requests.{plain}
-use Rattle.frames.specs.Reading.{addressIn, namedIn, loginIn, stringIn, requestIn}
+use Rattle.frames.specs.Reading.{addressIn, namedIn, loginIn, stringRequest, requestIn}
 use Rattle.site.specs.Layout.{users, userOffset, partitions, partitionOffset, nameAt, passwordAt, rowAt, spareAt}
 use Rattle.site.specs.Rules.{goodHeader, sameName, namedAt, nameAlone, tracks, sectors, ranged, numbered, partitionNumbered, numberAlone, meet, overlap, partitionsOverlap, sound, apart, goodPartition, goodSite}
 use Rattle.site.specs.Found.{userIs, hasUser, indexOfNumber}
@@ -26,5 +26,5 @@ use Rattle.examples.specs.Play.{played, said, allPlayed, allSaid}
 use Rattle.examples.specs.Marked.{partition, header, empty, one, two, reads, locks, unlocks, logsIn, string, used, fresh, silent, marked}
 
 pub marked-pass : allPlayed marked ≡ allSaid marked
-unfolding all any first sameAt same zeroAt zeros part put copies eachRow lowFirst lowBytes legal key sameString normal frameTable lengthIn frameLength carriesAddress plain addressIn namedIn loginIn stringIn requestIn users userOffset partitions partitionOffset nameAt passwordAt rowAt spareAt goodHeader sameName namedAt nameAlone tracks sectors ranged numbered partitionNumbered numberAlone meet overlap partitionsOverlap sound apart goodPartition goodSite userIs hasUser indexOfNumber inside placeOn refused placedOn placedIn flag bytesOf stationOf goodCounts goodRecord goodNumber goodRecords loggedIn freeNumber lowestNumber loggedInAs afterLogin afterLogout freshRecords owner stringOf isFree rowOf holds freed holdsAt freeAt ownerAt heldAt lowestFree isHeld isOwn lockStatus lockTable freesLock unlockStatus unlockTable clearedTable soundRow soundAt aloneAt soundRows goodLocks freshLocks goodTables unknown misplaced dtnSet srcDiffers placeRefusal frameTests frameRefusal refusal placeTold hasFree nameFound loginAnswer loginRecords answerTo locksBy recordsBy frameTold frameLocks frameRecords isDue missesAfter slowAfter isOut stationAt dueAt outAt pollRefusal turnLocks turnRecords pollTold pollLocks pollRecords played said allPlayed allSaid partition header empty one two reads locks unlocks logsIn string used fresh silent marked
+unfolding all any first sameAt same zeroAt zeros part put copies eachRow lowFirst lowBytes stringAt legal key sameString normal frameTable lengthIn frameLength carriesAddress plain addressIn namedIn loginIn stringRequest requestIn users userOffset partitions partitionOffset nameAt passwordAt rowAt spareAt goodHeader sameName namedAt nameAlone tracks sectors ranged numbered partitionNumbered numberAlone meet overlap partitionsOverlap sound apart goodPartition goodSite userIs hasUser indexOfNumber inside placeOn refused placedOn placedIn flag bytesOf stationOf goodCounts goodRecord goodNumber goodRecords loggedIn freeNumber lowestNumber loggedInAs afterLogin afterLogout freshRecords owner stringOf isFree rowOf holds freed holdsAt freeAt ownerAt heldAt lowestFree isHeld isOwn lockStatus lockTable freesLock unlockStatus unlockTable clearedTable soundRow soundAt aloneAt soundRows goodLocks freshLocks goodTables unknown misplaced dtnSet srcDiffers placeRefusal frameTests frameRefusal refusal placeTold hasFree nameFound loginAnswer loginRecords answerTo locksBy recordsBy frameTold frameLocks frameRecords isDue missesAfter slowAfter isOut stationAt dueAt outAt pollRefusal turnLocks turnRecords pollTold pollLocks pollRecords played said allPlayed allSaid partition header empty one two reads locks unlocks logsIn string used fresh silent marked
 marked-pass = refl

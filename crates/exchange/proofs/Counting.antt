@@ -15,7 +15,7 @@ use Rattle.locks.specs.Table.{rowCount}
 use Rattle.locks.specs.Holding.{has}
 use Rattle.locks.proofs.LockRowLaws.{holds-is}
 use Rattle.locks.proofs.HoldingLaws.{rowBy, has-row}
-use Rattle.station.specs.State.{stringIn, isListed, listed}
+use Rattle.station.specs.State.{placeString, isListed, listed}
 use Rattle.station.proofs.GoodLaws.{Good}
 use Rattle.station.proofs.ListedLaws.{listed-same, below-listed, below-one}
 
@@ -71,9 +71,9 @@ pub list-fits : {n : ℕ} {l : List ℕ} (g : Good n l) (t : List ℕ) (k : ℕ)
 list-fits {n} {l} g t k x all-held x-held new = let few = held-few t k (suc (listed l)) z z-held z-one in omega (arith, few)
   where
     z : ℕ → LockString
-    z i = cond (ltb i (listed l)) (stringIn (row 14 l i)) x
+    z i = cond (ltb i (listed l)) (placeString (row 14 l i)) x
 
-    below : (i : ℕ) → i < listed l → z i ≡ stringIn (row 14 l i)
+    below : (i : ℕ) → i < listed l → z i ≡ placeString (row 14 l i)
     below i b = rw (lt-ltb i (listed l) b)
 
     last : (i : ℕ) → listed l ≤ i → z i ≡ x
@@ -84,7 +84,7 @@ list-fits {n} {l} g t k x all-held x-held new = let few = held-few t k (suc (lis
         (λ e. rw (last i (omega arith)) x-held)
         (λ ne. rw (below i (omega arith)) (all-held _ (below-listed g i (omega arith))))
 
-    not-new : (i : ℕ) → i < listed l → sameString (stringIn (row 14 l i)) x ≡ true → ⊥
+    not-new : (i : ℕ) → i < listed l → sameString (placeString (row 14 l i)) x ≡ true → ⊥
     not-new i b s = both (sym (listed-same l _ x s) ∙ below-listed g i b) new
 
     z-one : (i j : ℕ) → i < suc (listed l) → j < suc (listed l) → sameString (z i) (z j) ≡ true → i ≡ j

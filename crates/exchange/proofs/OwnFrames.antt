@@ -11,7 +11,8 @@ use borrow.Author.Tests.{eq-eqb, ne-eqb, le-ltb}
 use Rattle.rows.proofs.BoolLaws.{by-test, by-eq, both}
 use Rattle.frames.specs.Table.{ACKNOWLEDGE, READ, WRITE, ASSIGN, LOCK, UNLOCK, CLEAR, LOGIN, LOGOUT, frameLength, carriesAddress}
 use Rattle.frames.specs.Requests.{plain}
-use Rattle.frames.specs.Reading.{code, namedIn, stringIn, requestIn}
+use Rattle.terms.specs.Strings.{stringAt}
+use Rattle.frames.specs.Reading.{code, namedIn, stringRequest, requestIn}
 use Rattle.site.specs.Rules.{goodSite}
 use Rattle.who.specs.Logins.{loggedIn, afterLogout}
 use Rattle.who.proofs.WhoLaws.{good-is, logged-below}
@@ -89,11 +90,11 @@ module _ (n : ℕ) (f s t w : List ℕ) where
   told-status c z = rw z (c .answer)
 
   pub own-lock : code f ≡ LOCK → Commands (lockStatus t n (askedIn f)) (lockTable t n (askedIn f))
-  unfolding requestIn stringIn askedIn answerTo locksBy recordsBy
+  unfolding requestIn stringRequest askedIn stringAt answerTo locksBy recordsBy
   own-lock e = record { answer = rw e; locks = rw e; records = rw e }
 
   pub own-unlock : code f ≡ UNLOCK → Commands (unlockStatus t n (askedIn f)) (unlockTable t n (askedIn f))
-  unfolding requestIn stringIn askedIn answerTo locksBy recordsBy
+  unfolding requestIn stringRequest askedIn stringAt answerTo locksBy recordsBy
   own-unlock e = record { answer = rw e; locks = rw e; records = rw e }
 
   pub own-clear : code f ≡ CLEAR → Commands 0x00 (clearedTable t n)

@@ -5,10 +5,10 @@ use mathlib.Core.List.{[], _∷_}
 use Rattle.rows.specs.Words.{all, any, first, sameAt, same, zeroAt, zeros}
 use Rattle.rows.specs.Rows.{part, put, copies, eachRow}
 use Rattle.rows.specs.Numbers.{lowFirst, lowBytes}
-use Rattle.terms.specs.Strings.{legal, key, sameString, normal}
+use Rattle.terms.specs.Strings.{stringAt, legal, key, sameString, normal}
 use Rattle.frames.specs.Table.{frameTable, lengthIn, frameLength, carriesAddress}
 use Rattle.frames.specs.Requests.{plain}
-use Rattle.frames.specs.Reading.{addressIn, namedIn, loginIn, stringIn as stringField, requestIn}
+use Rattle.frames.specs.Reading.{addressIn, namedIn, loginIn, stringRequest, requestIn}
 use Rattle.site.specs.Layout.{users, userOffset, partitions, partitionOffset, nameAt, passwordAt, rowAt, spareAt}
 use Rattle.site.specs.Rules.{goodHeader, sameName, namedAt, nameAlone, tracks, sectors, ranged, numbered, partitionNumbered, numberAlone, meet, overlap, partitionsOverlap, sound, apart, goodPartition, goodSite}
 use Rattle.site.specs.Found.{userIs, hasUser, indexOfNumber}
@@ -22,8 +22,8 @@ use Rattle.master.specs.Tables.{goodTables}
 use Rattle.master.specs.Refusals.{unknown, misplaced, dtnSet, srcDiffers, placeRefusal, frameTests, frameRefusal, refusal}
 use Rattle.master.specs.Frames.{placeTold, hasFree, nameFound, loginAnswer, loginRecords, answerTo, locksBy, recordsBy, frameTold, frameLocks, frameRecords}
 use Rattle.master.specs.Polls.{stationAt}
-use Rattle.station.specs.State.{listOf, waitOf, stringIn, unused, listedAt, isListed, placeOf, listed, added, struckAt, codeIn, askedIn}
-use Rattle.station.specs.Good.{goodPlace, goodAt as goodPlaceAt, aloneAt as alonePlace, goodList, goodWait, goodState}
+use Rattle.station.specs.State.{listOf, waitOf, placeString, unused, listedAt, isListed, placeOf, listed, added, struckAt, codeIn, askedIn}
+use Rattle.station.specs.Good.{goodPlace, goodAt as goodPlaceAt, inFront, aloneAt as alonePlace, goodList, goodWait, goodState}
 use Rattle.station.specs.Asks.{waits, askRefusal, struck, awaited, afterLock, afterUnlock, freshState, frameAwaited, sendRefusal, sentOf, bufferAfter}
 use Rattle.station.specs.Replies.{fits, grants, carriesLength, adds, replyRefusal, afterReply}
 use Rattle.exchange.specs.Runs.{after, tables, answerIn}
@@ -32,15 +32,15 @@ use Rattle.exchange.specs.Promise.{lists}
 use Rattle.exchange.specs.Story.{A, site, login, buffer, asked, replied, locksA, unlocksA, one-locks, one-holds, one-unlocks, one-free, two-locks, two-denied, two-again, two-holds, from, logins, one-has-it, two-has-it, answersIn, said}
 
 pub story-told : answersIn two-has-it ≡ said
-unfolding all any first sameAt same zeroAt zeros part put copies eachRow lowFirst lowBytes legal key sameString normal frameTable lengthIn frameLength carriesAddress plain addressIn namedIn loginIn stringField requestIn users userOffset partitions partitionOffset nameAt passwordAt rowAt spareAt goodHeader sameName namedAt nameAlone tracks sectors ranged numbered partitionNumbered numberAlone meet overlap partitionsOverlap sound apart goodPartition goodSite userIs hasUser indexOfNumber flag bytesOf stationOf goodCounts goodRecord goodNumber goodRecords loggedIn freeNumber lowestNumber loggedInAs afterLogin afterLogout freshRecords owner stringOf isFree rowOf holds freed holdsAt freeAt ownerAt heldAt lowestFree isHeld isOwn lockStatus lockTable unlocks unlockStatus unlockTable clearedTable soundRow soundAt aloneAt soundRows goodLocks freshLocks goodTables unknown misplaced dtnSet srcDiffers placeRefusal frameTests frameRefusal refusal placeTold hasFree nameFound loginAnswer loginRecords answerTo locksBy recordsBy frameTold frameLocks frameRecords listOf waitOf stringIn unused listedAt isListed placeOf listed added struckAt codeIn askedIn goodPlace goodPlaceAt alonePlace goodList goodWait goodState waits askRefusal struck awaited afterLock afterUnlock freshState frameAwaited sendRefusal sentOf bufferAfter fits grants carriesLength adds replyRefusal afterReply after tables answerIn sent A site login buffer asked replied locksA unlocksA one-locks one-holds one-unlocks one-free two-locks two-denied two-again two-holds from logins one-has-it two-has-it answersIn said
+unfolding all any first sameAt same zeroAt zeros part put copies eachRow lowFirst lowBytes stringAt legal key sameString normal frameTable lengthIn frameLength carriesAddress plain addressIn namedIn loginIn stringRequest requestIn users userOffset partitions partitionOffset nameAt passwordAt rowAt spareAt goodHeader sameName namedAt nameAlone tracks sectors ranged numbered partitionNumbered numberAlone meet overlap partitionsOverlap sound apart goodPartition goodSite userIs hasUser indexOfNumber flag bytesOf stationOf goodCounts goodRecord goodNumber goodRecords loggedIn freeNumber lowestNumber loggedInAs afterLogin afterLogout freshRecords owner stringOf isFree rowOf holds freed holdsAt freeAt ownerAt heldAt lowestFree isHeld isOwn lockStatus lockTable unlocks unlockStatus unlockTable clearedTable soundRow soundAt aloneAt soundRows goodLocks freshLocks goodTables unknown misplaced dtnSet srcDiffers placeRefusal frameTests frameRefusal refusal placeTold hasFree nameFound loginAnswer loginRecords answerTo locksBy recordsBy frameTold frameLocks frameRecords listOf waitOf placeString unused listedAt isListed placeOf listed added struckAt codeIn askedIn goodPlace goodPlaceAt inFront alonePlace goodList goodWait goodState waits askRefusal struck awaited afterLock afterUnlock freshState frameAwaited sendRefusal sentOf bufferAfter fits grants carriesLength adds replyRefusal afterReply after tables answerIn sent A site login buffer asked replied locksA unlocksA one-locks one-holds one-unlocks one-free two-locks two-denied two-again two-holds from logins one-has-it two-has-it answersIn said
 story-told = refl
 
 -- who lists "A" on the way: 1 after the reply 81, 2 not after 01, 1 no more after its unlock, and then 2
 pub story-lists : (lists one-holds A ∷ lists two-denied A ∷ lists one-free A ∷ lists two-holds A ∷ []) ≡ (true ∷ false ∷ false ∷ true ∷ [])
-unfolding all any first sameAt same zeroAt zeros part put legal key sameString normal listOf waitOf stringIn unused listedAt isListed placeOf listed added struckAt codeIn askedIn goodPlace goodPlaceAt alonePlace goodList goodWait goodState waits askRefusal struck awaited afterLock afterUnlock freshState fits grants carriesLength adds replyRefusal afterReply A asked replied locksA unlocksA one-locks one-holds one-unlocks one-free two-locks two-denied two-again two-holds lists
+unfolding all any first sameAt same zeroAt zeros part put stringAt legal key sameString normal listOf waitOf placeString unused listedAt isListed placeOf listed added struckAt codeIn askedIn goodPlace goodPlaceAt inFront alonePlace goodList goodWait goodState waits askRefusal struck awaited afterLock afterUnlock freshState fits grants carriesLength adds replyRefusal afterReply A asked replied locksA unlocksA one-locks one-holds one-unlocks one-free two-locks two-denied two-again two-holds lists
 story-lists = refl
 
 -- station 2 has missed no poll so far
 pub two-counts : (stationAt (tables two-has-it .records) 2 .misses ≡ 0) × (stationAt (tables two-has-it .records) 2 .slow ≡ 0)
-unfolding all any first sameAt same zeroAt zeros part put copies eachRow lowFirst lowBytes legal key sameString normal frameTable lengthIn frameLength carriesAddress plain addressIn namedIn loginIn stringField requestIn users userOffset partitions partitionOffset nameAt passwordAt rowAt spareAt goodHeader sameName namedAt nameAlone tracks sectors ranged numbered partitionNumbered numberAlone meet overlap partitionsOverlap sound apart goodPartition goodSite userIs hasUser indexOfNumber flag bytesOf stationOf goodCounts goodRecord goodNumber goodRecords loggedIn freeNumber lowestNumber loggedInAs afterLogin afterLogout freshRecords owner stringOf isFree rowOf holds freed holdsAt freeAt ownerAt heldAt lowestFree isHeld isOwn lockStatus lockTable unlocks unlockStatus unlockTable clearedTable soundRow soundAt aloneAt soundRows goodLocks freshLocks goodTables unknown misplaced dtnSet srcDiffers placeRefusal frameTests frameRefusal refusal placeTold hasFree nameFound loginAnswer loginRecords answerTo locksBy recordsBy frameTold frameLocks frameRecords listOf waitOf stringIn unused listedAt isListed placeOf listed added struckAt codeIn askedIn goodPlace goodPlaceAt alonePlace goodList goodWait goodState waits askRefusal struck awaited afterLock afterUnlock freshState frameAwaited sendRefusal sentOf bufferAfter fits grants carriesLength adds replyRefusal afterReply after tables sent A site login buffer asked replied locksA unlocksA one-locks one-holds one-unlocks one-free two-locks two-denied two-again two-holds from logins one-has-it two-has-it stationAt
+unfolding all any first sameAt same zeroAt zeros part put copies eachRow lowFirst lowBytes stringAt legal key sameString normal frameTable lengthIn frameLength carriesAddress plain addressIn namedIn loginIn stringRequest requestIn users userOffset partitions partitionOffset nameAt passwordAt rowAt spareAt goodHeader sameName namedAt nameAlone tracks sectors ranged numbered partitionNumbered numberAlone meet overlap partitionsOverlap sound apart goodPartition goodSite userIs hasUser indexOfNumber flag bytesOf stationOf goodCounts goodRecord goodNumber goodRecords loggedIn freeNumber lowestNumber loggedInAs afterLogin afterLogout freshRecords owner stringOf isFree rowOf holds freed holdsAt freeAt ownerAt heldAt lowestFree isHeld isOwn lockStatus lockTable unlocks unlockStatus unlockTable clearedTable soundRow soundAt aloneAt soundRows goodLocks freshLocks goodTables unknown misplaced dtnSet srcDiffers placeRefusal frameTests frameRefusal refusal placeTold hasFree nameFound loginAnswer loginRecords answerTo locksBy recordsBy frameTold frameLocks frameRecords listOf waitOf placeString unused listedAt isListed placeOf listed added struckAt codeIn askedIn goodPlace goodPlaceAt inFront alonePlace goodList goodWait goodState waits askRefusal struck awaited afterLock afterUnlock freshState frameAwaited sendRefusal sentOf bufferAfter fits grants carriesLength adds replyRefusal afterReply after tables sent A site login buffer asked replied locksA unlocksA one-locks one-holds one-unlocks one-free two-locks two-denied two-again two-holds from logins one-has-it two-has-it stationAt
 two-counts = (refl, refl)

@@ -18,8 +18,9 @@ use Rattle.frames.specs.declared.Command.{Command}
 use Rattle.frames.specs.declared.Command.the-variants.{Acknowledge, Read, Write, Login, Assign, Lock, Unlock, Clear, Logout}
 use Rattle.frames.specs.Table.{READ, WRITE, LOGIN, ASSIGN, LOCK, UNLOCK}
 use Rattle.frames.specs.Requests.{plain, carriedBy}
-use Rattle.frames.specs.Reading.{code, addressIn, namedIn, loginIn, stringIn, requestIn}
-use Rattle.frames.specs.Writing.{addressFields, namedFields, loginFields, stringFields, codeOf, fieldsOf}
+use Rattle.terms.specs.Strings.{stringAt, stringBytes}
+use Rattle.frames.specs.Reading.{code, addressIn, namedIn, loginIn, stringRequest, requestIn}
+use Rattle.frames.specs.Writing.{addressFields, namedFields, loginFields, codeOf, fieldsOf}
 use Rattle.frames.proofs.WriteLaws.{Sized}
 
 -- a track is a number of two bytes
@@ -40,13 +41,12 @@ module _ (k : ℕ) where
   unfolding addressIn addressFields lowBytes part
   address-reads src a small = rw (low-back 2 (a .track .0) small)
 
-  string-reads : (s : LockString) → length (s .bytes) ≡ 13 → part (k ∷ stringFields s) 2 13 ≡ s .bytes
-  unfolding stringFields
+  string-reads : (s : LockString) → length (s .bytes) ≡ 13 → part (k ∷ stringBytes s) 2 13 ≡ s .bytes
   string-reads s full = part-end (k ∷ s .len ∷ []) (s .bytes) 2 13 refl full
 
 -- what was written for a command reads back as what the command carries
 pub fields-read : (c : Command) (q : Request) → Sized q → TrackFits c → requestIn (codeOf c ∷ fieldsOf c q) ≡ carriedBy c q
-unfolding requestIn namedIn loginIn stringIn codeOf fieldsOf addressFields namedFields loginFields stringFields carriedBy
+unfolding requestIn namedIn loginIn stringRequest stringAt codeOf fieldsOf addressFields namedFields loginFields carriedBy
 fields-read Acknowledge q s t = refl
 fields-read (Read src a) q s t = ap (λ (b : Address). plain (Read src b)) (address-reads READ src a t)
 fields-read (Write src a) q s t = ap (λ (b : Address). plain (Write src b)) (address-reads WRITE src a t)

@@ -10,7 +10,8 @@ use borrow.Author.Tests.{eqb-true, eqb-false, eq-eqb, ne-eqb, not-false}
 use Rattle.rows.proofs.BoolLaws.{by-test}
 use Rattle.frames.specs.Table.{frameLength, carriesAddress}
 use Rattle.frames.specs.Requests.{plain}
-use Rattle.frames.specs.Reading.{code, refusalOf, namedIn, loginIn, stringIn, requestIn}
+use Rattle.terms.specs.Strings.{stringAt}
+use Rattle.frames.specs.Reading.{code, refusalOf, namedIn, loginIn, stringRequest, requestIn}
 use Rattle.frames.specs.Writing.{codeOf}
 use Rattle.frames.proofs.TableLaws.{Code, acknowledge, read, write, login, assign, lock, unlock, clear, logout, code-is}
 
@@ -62,7 +63,7 @@ well-long f k h e = well-is f h .long ∙ ap frameLength e
 
 -- the command of a frame has the frame's code
 pub code-kept : (f : List ℕ) → refusalOf f ≡ 0 → codeOf (requestIn f .command) ≡ code f
-unfolding codeOf requestIn namedIn loginIn stringIn plain
+unfolding codeOf requestIn namedIn loginIn stringRequest stringAt plain
 code-kept f h = go (code-is (code f) (well-is f h .known))
   where
     go : Code (code f) → codeOf (requestIn f .command) ≡ code f

@@ -18,8 +18,9 @@ use Rattle.frames.specs.declared.Reading.{Reading}
 use Rattle.frames.specs.declared.Written.{Written}
 use Rattle.frames.specs.Table.{ACKNOWLEDGE, READ, WRITE, LOGIN, ASSIGN, LOCK, UNLOCK, CLEAR, LOGOUT, frameTable, lengthIn, frameLength, carriesAddress}
 use Rattle.frames.specs.Requests.{plain, carried}
-use Rattle.frames.specs.Reading.{code, refusalOf, namedIn, loginIn, stringIn, requestIn, readingOf}
-use Rattle.frames.specs.Writing.{namedFields, loginFields, stringFields, codeOf, fieldsOf, frameOf, writtenOf, bufferAfter}
+use Rattle.terms.specs.Strings.{stringAt}
+use Rattle.frames.specs.Reading.{code, refusalOf, namedIn, loginIn, stringRequest, requestIn, readingOf}
+use Rattle.frames.specs.Writing.{namedFields, loginFields, codeOf, fieldsOf, frameOf, writtenOf, bufferAfter}
 use Rattle.frames.proofs.TableLaws.{Code, acknowledge, read, write, login, assign, lock, unlock, clear, logout, code-is}
 use Rattle.frames.proofs.ReadLaws.{well-is, is-well, well-long}
 pub use Rattle.frames.proofs.WriteLaws.{Sized}
@@ -96,7 +97,7 @@ written-reads-back q t b b′ w done ok r g =
 
 -- a frame that is not refused is the one written for its request
 pub well-read-is-written : (f : List ℕ) → Bytes f → refusalOf f ≡ 0 → frameOf (requestIn f) ≡ f
-unfolding requestIn namedIn loginIn stringIn frameOf codeOf fieldsOf namedFields loginFields stringFields plain frameLength lengthIn frameTable carriesAddress
+unfolding requestIn namedIn loginIn stringRequest stringAt frameOf codeOf fieldsOf namedFields loginFields plain frameLength lengthIn frameTable carriesAddress
 well-read-is-written f b h = go (code-is (code f) (well-is f h .known))
   where
     go : Code (code f) → frameOf (requestIn f) ≡ f

@@ -14,7 +14,7 @@ use Rattle.frames.specs.declared.Command.the-variants.{Acknowledge, Read
 use Rattle.frames.specs.declared.Request.{Request}
 use Rattle.frames.specs.Table.{frameTable, lengthIn, frameLength, carriesAddress}
 use Rattle.frames.specs.Requests.{plain, carriedBy}
-use Rattle.frames.specs.Writing.{addressFields, namedFields, loginFields, stringFields, codeOf, fieldsOf, frameOf}
+use Rattle.frames.specs.Writing.{addressFields, namedFields, loginFields, codeOf, fieldsOf, frameOf}
 
 -- the lengths of the byte fields of every request
 pub record Sized (q : Request) : Type 0 where
@@ -25,7 +25,7 @@ pub record Sized (q : Request) : Type 0 where
 
 -- a frame has the length beside its code
 fields-long : (c : Command) (q : Request) → Sized q → length (codeOf c ∷ fieldsOf c q) ≡ frameLength (codeOf c)
-unfolding codeOf fieldsOf addressFields namedFields loginFields stringFields frameLength lengthIn frameTable
+unfolding codeOf fieldsOf addressFields namedFields loginFields frameLength lengthIn frameTable
 fields-long Acknowledge q s = refl
 fields-long (Read src a) q s = simp (length-append, length-lowBytes)
 fields-long (Write src a) q s = simp (length-append, length-lowBytes)

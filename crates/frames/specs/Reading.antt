@@ -7,6 +7,7 @@ use lib.ListN.{length, getD, replicate}
 use Rattle.rows.specs.Rows.{part}
 use Rattle.rows.specs.Numbers.{lowFirst}
 use Rattle.terms.specs.declared.Address.{Address}
+use Rattle.terms.specs.Strings.{stringAt}
 use Rattle.frames.specs.declared.Command.{Command}
 use Rattle.frames.specs.declared.Command.the-variants.{Acknowledge, Read, Write, Login, Assign, Lock, Unlock, Clear, Logout}
 use Rattle.frames.specs.declared.Request.{Request}
@@ -44,13 +45,13 @@ unfoldable pub loginIn : List ℕ → Request
 loginIn f = record { command = Login (getD f 19 0); name = part f 1 8; password = part f 9 6; serial = part f 15 4; string = noString }
 
 -- code, len 1, string 13
-unfoldable pub stringIn : Command → List ℕ → Request
-stringIn c f = record {
+unfoldable pub stringRequest : Command → List ℕ → Request
+stringRequest c f = record {
   command = c;
   name = replicate 8 0;
   password = replicate 6 0;
   serial = replicate 4 0;
-  string = record { len = getD f 1 0; bytes = part f 2 13 };
+  string = stringAt f 1;
 }
 
 -- the request of a frame that is not refused
@@ -60,8 +61,8 @@ requestIn f =
     (cond (eqb (code f) WRITE) (plain (Write (getD f 2 0) (addressIn f)))
     (cond (eqb (code f) LOGIN) (loginIn f)
     (cond (eqb (code f) ASSIGN) (namedIn Assign f)
-    (cond (eqb (code f) LOCK) (stringIn Lock f)
-    (cond (eqb (code f) UNLOCK) (stringIn Unlock f)
+    (cond (eqb (code f) LOCK) (stringRequest Lock f)
+    (cond (eqb (code f) UNLOCK) (stringRequest Unlock f)
     (cond (eqb (code f) CLEAR) (plain Clear)
     (cond (eqb (code f) LOGOUT) (plain (Logout (getD f 1 0)))
     (plain Acknowledge))))))))

@@ -7,7 +7,7 @@ use lib.ListN.{length}
 use Rattle.rows.specs.Rows.{over}
 use Rattle.rows.specs.Numbers.{lowBytes}
 use Rattle.terms.specs.declared.Address.{Address}
-use Rattle.terms.specs.declared.LockString.{LockString}
+use Rattle.terms.specs.Strings.{stringBytes}
 use Rattle.frames.specs.declared.Command.{Command}
 use Rattle.frames.specs.declared.Command.the-variants.{Acknowledge, Read, Write, Login, Assign, Lock, Unlock, Clear, Logout}
 use Rattle.frames.specs.declared.Request.{Request}
@@ -25,10 +25,6 @@ namedFields q = q .name ++ q .password
 -- name 8, password 6, serial 4, product 1
 unfoldable pub loginFields : Request → ℕ → List ℕ
 loginFields q product = q .name ++ (q .password ++ (q .serial ++ (product ∷ [])))
-
--- len 1, string 13
-unfoldable pub stringFields : LockString → List ℕ
-stringFields s = s .len ∷ s .bytes
 
 unfoldable pub codeOf : Command → ℕ
 codeOf Acknowledge = ACKNOWLEDGE
@@ -48,8 +44,8 @@ fieldsOf (Read src a) q = addressFields src a
 fieldsOf (Write src a) q = addressFields src a
 fieldsOf (Login product) q = loginFields q product
 fieldsOf Assign q = namedFields q
-fieldsOf Lock q = stringFields (q .string)
-fieldsOf Unlock q = stringFields (q .string)
+fieldsOf Lock q = stringBytes (q .string)
+fieldsOf Unlock q = stringBytes (q .string)
 fieldsOf Clear q = []
 fieldsOf (Logout src) q = src ∷ []
 

@@ -9,7 +9,8 @@ ghost use mathlib.Core.List.{[], _∷_};
 ghost use Prim.Native.Nat.{_≤_};
 ghost use lib.ListN.{length};
 ghost use Rattle.rows.specs.Rows.{over};
-ghost use Rattle.frames.specs.Writing.{codeOf, frameOf, addressFields, namedFields, loginFields, stringFields};
+ghost use Rattle.terms.specs.Strings.{stringBytes};
+ghost use Rattle.frames.specs.Writing.{codeOf, frameOf, addressFields, namedFields, loginFields};
 ghost use Rattle.frames.specs.Table.{LOGIN, LOGOUT};
 
 // The code of a command.
@@ -84,12 +85,11 @@ fn write_login(buffer: &mut [u8], q: Request, product: u8)
 // The lock string, with the bytes after its length.
 fn write_string(buffer: &mut [u8], code: u8, s: LockString)
     requires { ⌜ 15 ≤ length (now buffer) ⌝ }
-    ensures { λ _. ⌜ now (buffer .exit) ≡ over (code ∷ stringFields s) (now (buffer .entry)) ⌝ }
+    ensures { λ _. ⌜ now (buffer .exit) ≡ over (code ∷ stringBytes s) (now (buffer .entry)) ⌝ }
 {
-    let head = [code, s.len];
-    let bytes = s.bytes;
+    let head = [code];
     rows::put(buffer, 0, &head);
-    rows::put(buffer, 2, &bytes);
+    terms::put_string(buffer, 1, s);
 }
 
 fn write_logout(buffer: &mut [u8], src: u8)

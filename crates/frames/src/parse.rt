@@ -12,7 +12,7 @@ ghost use mathlib.Core.Path.{_≡_};
 ghost use Prim.Native.Nat.{_≤_};
 ghost use lib.ListN.{length};
 ghost use Rattle.frames.specs.Requests.{plain as plainOf};
-ghost use Rattle.frames.specs.Reading.{refusalOf, addressIn, namedIn, loginIn, stringIn, requestIn};
+ghost use Rattle.frames.specs.Reading.{refusalOf, addressIn, namedIn, loginIn, stringRequest, requestIn};
 
 pub fn refusal_of(frame: &[u8]) -> u8
     ensures { λ r. ⌜ r ≡ refusalOf (now (frame .entry)) ⌝ }
@@ -94,7 +94,7 @@ fn login(frame: &[u8]) -> Request
 // The lock string, with the bytes after its length.
 fn with_string(command: Command, frame: &[u8]) -> Request
     requires { ⌜ 15 ≤ length (now frame) ⌝ }
-    ensures { λ r. ⌜ r ≡ stringIn command (now (frame .entry)) ⌝ }
+    ensures { λ r. ⌜ r ≡ stringRequest command (now (frame .entry)) ⌝ }
 {
     let string = terms::string_at(frame, 1);
     let mut q = plain(command);

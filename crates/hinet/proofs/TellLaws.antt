@@ -21,7 +21,7 @@ use Rattle.frames.specs.declared.Request.{Request}
 use Rattle.frames.specs.declared.Command.the-variants.{Assign, Lock, Unlock}
 use Rattle.frames.specs.Requests.{plain}
 use Rattle.frames.specs.Table.{READ, WRITE, LOGIN, ASSIGN, LOCK, UNLOCK, CLEAR, LOGOUT, frameLength, carriesAddress}
-use Rattle.frames.specs.Reading.{code, addressIn, namedIn, loginIn, stringIn, requestIn}
+use Rattle.frames.specs.Reading.{code, addressIn, namedIn, loginIn, stringRequest, requestIn}
 use Rattle.site.specs.declared.PartitionRow.{PartitionRow}
 use Rattle.site.specs.Layout.{partitions, partitionsFrom, rowAt, partitionRow, partitionPassword}
 use Rattle.site.specs.Rules.{ranged, goodSite}
@@ -139,15 +139,15 @@ module _ (n : ℕ) (f s t w : List ℕ) where
 
   -- what each command is answered
   answer-fits : Bytes f → Bytes s → goodSite s ≡ true → Tellable (answerTo (requestIn f .command) (requestIn f) n s t w)
-  unfolding requestIn namedIn loginIn stringIn plain answerTo
+  unfolding requestIn namedIn loginIn stringRequest plain answerTo
   answer-fits frame site good =
       let P : Request → Type 0 = λ q. Tellable (answerTo (q .command) q n s t w) in
       by-cond P (eqb (code f) READ) (place-fits s good (addressIn f))
       (by-cond P (eqb (code f) WRITE) (place-fits s good (addressIn f))
       (by-cond P (eqb (code f) LOGIN) (login-fits s (loginIn f) w (part-small f 15 4 frame))
       (by-cond P (eqb (code f) ASSIGN) (assign-fits s good site (namedIn Assign f))
-      (by-cond P (eqb (code f) LOCK) (lock-fits t n (stringIn Lock f .string))
-      (by-cond P (eqb (code f) UNLOCK) (unlock-fits t n (stringIn Unlock f .string))
+      (by-cond P (eqb (code f) LOCK) (lock-fits t n (stringRequest Lock f .string))
+      (by-cond P (eqb (code f) UNLOCK) (unlock-fits t n (stringRequest Unlock f .string))
       (by-cond P (eqb (code f) CLEAR) (omega arith)
       (by-cond P (eqb (code f) LOGOUT) tt tt)))))))
 

@@ -2,12 +2,12 @@
 use crate::packing;
 use terms::LockString;
 ghost use mathlib.Core.Path.{_≡_};
-ghost use Rattle.station.specs.State.{stringIn};
+ghost use Rattle.terms.specs.Strings.{stringAt};
 ghost use Rattle.hinet.specs.StationEntries.{Freshly, Locks, Unlocks, Clears, Sends, Takes};
 
 // The string in 14 bytes, the length first.
 fn string_of(lockstring: &[u8; 14]) -> LockString
-    ensures { λ s. ⌜ s ≡ stringIn (now (lockstring .entry)) ⌝ }
+    ensures { λ s. ⌜ s ≡ stringAt (now (lockstring .entry)) 0 ⌝ }
 {
     terms::string_at(lockstring, 0)
 }
@@ -23,7 +23,7 @@ pub extern "C" fn hinet_station_fresh(station: &mut [u8]) -> u64
 // Asks for a lock: 11, 14.
 #[no_mangle]
 pub extern "C" fn hinet_station_lock(station: &mut [u8], lockstring: &[u8; 14]) -> u64
-    ensures { λ r. ⌜ Locks (now (station .entry)) (stringIn (now (lockstring .entry))) r (now (station .exit)) ⌝ }
+    ensures { λ r. ⌜ Locks (now (station .entry)) (stringAt (now (lockstring .entry)) 0) r (now (station .exit)) ⌝ }
 {
     packing::pack_step(station::ask_lock(station, string_of(lockstring)))
 }
@@ -31,7 +31,7 @@ pub extern "C" fn hinet_station_lock(station: &mut [u8], lockstring: &[u8; 14]) 
 // Asks to unlock: 11, 14.
 #[no_mangle]
 pub extern "C" fn hinet_station_unlock(station: &mut [u8], lockstring: &[u8; 14]) -> u64
-    ensures { λ r. ⌜ Unlocks (now (station .entry)) (stringIn (now (lockstring .entry))) r (now (station .exit)) ⌝ }
+    ensures { λ r. ⌜ Unlocks (now (station .entry)) (stringAt (now (lockstring .entry)) 0) r (now (station .exit)) ⌝ }
 {
     packing::pack_step(station::ask_unlock(station, string_of(lockstring)))
 }

@@ -14,15 +14,15 @@ use Rattle.rows.proofs.BoolLaws.{by-test, and-left, and-right}
 use Rattle.rows.proofs.BuildLaws.{is-zeros, drop-zeros}
 use Rattle.rows.proofs.RowLaws.{length-part}
 use Rattle.terms.specs.declared.LockString.{LockString}
-use Rattle.terms.specs.Strings.{stringAt, legal, key, sameString, normal}
+use Rattle.terms.specs.Strings.{stringAt, stringBytes, legal, key, sameString, normal}
 use Rattle.terms.proofs.StringLaws.{string-inside, legal-len, legal-same, normal-is-same, length-key, length-normal, same-string-normal, same-string-right}
 use Rattle.who.specs.Logins.{loggedIn}
 use Rattle.locks.specs.Row.{owner, stringOf, freeRow, isFree, rowOf, holds, freed}
 use Rattle.locks.specs.Good.{soundRow, goodRow}
 
 -- a row made of its owner, its length and its string over sixteen zeros
-pub row-laid : (who len : ℕ) (b : List ℕ) → length b ≡ 13 → over (who ∷ len ∷ b) (replicate 16 0) ≡ who ∷ len ∷ (b ++ (0 ∷ []))
-row-laid who len b h = rw h
+pub row-laid : (who : ℕ) (s : LockString) → length (s .bytes) ≡ 13 → over (who ∷ stringBytes s) (replicate 16 0) ≡ who ∷ (stringBytes s ++ (0 ∷ []))
+row-laid who s h = rw h
 
 -- the string of row i
 pub row-string : (t : List ℕ) (i : ℕ) → stringAt t (16 * i + 1) ≡ stringOf (row 16 t i)

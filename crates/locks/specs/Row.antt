@@ -6,7 +6,7 @@ use lib.Dec.{eqb}
 use lib.ListN.{getD, replicate}
 use Rattle.terms.specs.declared.table.Shape.{Shape}
 use Rattle.terms.specs.declared.LockString.{LockString}
-use Rattle.terms.specs.Strings.{stringAt, sameString, normal}
+use Rattle.terms.specs.Strings.{stringAt, stringBytes, sameString, normal}
 
 unfoldable pub owner : List ℕ → ℕ
 owner r = getD r 0 0
@@ -27,7 +27,7 @@ isFree r = eqb (owner r) 0xFF
 
 -- the row of an owner that holds s: zeros after the string and in the spare byte
 unfoldable pub rowOf : ℕ → LockString → List ℕ
-rowOf who s = who ∷ s .len ∷ (normal s .bytes ++ (0 ∷ []))
+rowOf who s = who ∷ (stringBytes (normal s) ++ (0 ∷ []))
 
 -- the row is used and holds s
 unfoldable pub holds : LockString → List ℕ → Bool

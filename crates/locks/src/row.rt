@@ -50,12 +50,10 @@ pub fn find_string(table: &[u8], n: usize, s: LockString) -> usize
 fn row_of(who: u8, s: LockString) -> [u8; 16]
     ensures { λ r. ⌜ r ≡ rowOf who s ⌝ }
 {
-    let plain = terms::normal(s);
-    let head = [who, s.len];
-    let bytes = plain.bytes;
+    let head = [who];
     let mut r = [0u8; 16];
     rows::put(&mut r, 0, &head);
-    rows::put(&mut r, 2, &bytes);
+    terms::put_string(&mut r, 1, terms::normal(s));
     r
 }
 

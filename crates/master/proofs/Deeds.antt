@@ -14,7 +14,8 @@ use Rattle.terms.specs.declared.LockString.{LockString}
 use Rattle.frames.specs.declared.Request.{Request}
 use Rattle.frames.specs.Table.{LOGIN, LOCK, UNLOCK, CLEAR, LOGOUT, frameTable, lengthIn, frameLength}
 use Rattle.frames.specs.Requests.{plain}
-use Rattle.frames.specs.Reading.{code, namedIn, loginIn, stringIn, requestIn}
+use Rattle.terms.specs.Strings.{stringAt}
+use Rattle.frames.specs.Reading.{code, namedIn, loginIn, stringRequest, requestIn}
 use Rattle.frames.proofs.TableLaws.{Code, acknowledge, read, write, login, assign, lock, unlock, clear, logout, code-is}
 use Rattle.frames.proofs.ReadLaws.{well-long}
 use Rattle.site.specs.Rules.{goodSite}
@@ -122,7 +123,7 @@ module _ (n : ℕ) (f s t w : List ℕ) where
         (λ m. rw m (quiet _ refl))
 
     done : Code (code f) → Done (requestIn f)
-    unfolding Done requestIn stringIn namedIn loginIn plain answerTo locksBy recordsBy frameLength lengthIn frameTable loginNumber
+    unfolding Done requestIn stringRequest stringAt namedIn loginIn plain answerTo locksBy recordsBy frameLength lengthIn frameTable loginNumber
     done (acknowledge e) = rw e (quiet [] refl)
     done (read e) = rw e (place-done _)
     done (write e) = rw e (place-done _)

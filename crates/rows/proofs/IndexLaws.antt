@@ -74,6 +74,9 @@ module _ (p : ℕ → Bool) where
       (λ y. let ih = first-found n y in rw y (omega (arith, ih .0), ih .1))
       (λ m. by-test (p n) (λ h. rw (m, h) (omega arith, h)) (λ h. both a (rw (m, h))))
 
+  pub first-most : (n : ℕ) → first p n ≤ n
+  first-most n = by-test (any p n) (λ y. omega (arith, first-found n y .0)) (λ m. omega (arith, first-none n m))
+
   -- the test by which code tells whether a search found something
   pub first-below : (n : ℕ) → ltb (first p n) n ≡ any p n
   first-below n = by-test (any p n)

@@ -1,20 +1,20 @@
 -- The rules of the list as facts.
 use Prim.Native.Nat.{ℕ, _*_, _≤_, _<_}
 use native.Mathlib.Omega.{arith}
-use mathlib.Core.Path.{_≡_, refl, sym}
-use mathlib.Core.Bool.{Bool, true, false, _||_}
+use mathlib.Core.Path.{_≡_, sym}
+use mathlib.Core.Bool.{true, false, _&&_}
 use mathlib.Core.List.{List}
 use lib.Dec.{ltb}
 use lib.ListN.{length}
 use borrow.Author.Tests.{ltb-true, ltb-false, not-true}
-use Rattle.rows.specs.Words.{all, any}
+use Rattle.rows.specs.Words.{all, first}
 use Rattle.rows.specs.Rows.{row}
 use Rattle.rows.proofs.BoolLaws.{by-test, by-eq, both, refuted, and-left, and-right}
-use Rattle.rows.proofs.IndexLaws.{all-at, all-from, none-at, none-from}
+use Rattle.rows.proofs.IndexLaws.{Passing, all-at, all-from, any-at, none-at, none-from, first-found, first-most, found-if, first-least}
 use Rattle.terms.specs.declared.LockString.{LockString}
 use Rattle.terms.proofs.StringLaws.{same-string-refl, same-string-sym, same-string-trans}
-use Rattle.station.specs.State.{stringIn, unused, listedAt}
-use Rattle.station.specs.Good.{goodPlace, goodAt, aloneAt, goodList}
+use Rattle.station.specs.State.{placeString, unused, listedAt}
+use Rattle.station.specs.Good.{goodPlace, goodAt, inFront, aloneAt, goodList}
 use Rattle.station.proofs.PlaceLaws.{holds-is, is-holds}
 
 -- each place keeps the rules by itself, of the places that hold a string there is one at most, and the used places come first
@@ -24,55 +24,69 @@ pub record Good (n : ℕ) (l : List ℕ) : Type 0 where
   pub one-place : (x : LockString) (i j : ℕ) → i < n → j < n → listedAt l x i ≡ true → listedAt l x j ≡ true → i ≡ j
   pub used-first : (i j : ℕ) → unused l i ≡ true → i ≤ j → j < n → unused l j ≡ true
 
--- the parts of a disjunction that fails
-either-fails : (a b : Bool) → (a || b) ≡ false → (a ≡ false) × (b ≡ false)
-either-fails true b h = both refl h
-either-fails false b h = (refl, h)
-
 module _ (n : ℕ) (l : List ℕ) where
-  -- before a used place no place is unused or holds its string
-  before : all (aloneAt l) n ≡ true → (i : ℕ) → i < n → unused l i ≡ false → (any (unused l) i ≡ false) × (any (listedAt l (stringIn (row 14 l i))) i ≡ false)
-  unfolding aloneAt
-  before a i b u = either-fails _ _ (not-true _ (rw u at (all-at (aloneAt l) n i a b)))
-
   not-before : all (aloneAt l) n ≡ true → (x : LockString) (i j : ℕ) → i < n → j < i → listedAt l x i ≡ true → listedAt l x j ≡ true → ⊥
+  unfolding aloneAt
   not-before a x i j m b p q =
       let here = holds-is l x i p in
       let there = holds-is l x j q in
-      let s = stringIn (row 14 l i) in
+      let s = placeString (row 14 l i) in
       both (is-holds l s j (record { used = there .used; string = same-string-trans _ _ _ (there .string) (same-string-sym _ _ (here .string)) }))
-      (none-at (listedAt l s) i j (before a i m (here .used) .1) b)
+      (none-at (listedAt l s) i j (not-true _ (rw (here .used) at (all-at (aloneAt l) n i a m))) b)
 
   alone-one : all (aloneAt l) n ≡ true → (x : LockString) (i j : ℕ) → i < n → j < n → listedAt l x i ≡ true → listedAt l x j ≡ true → i ≡ j
   alone-one a x i j b m p q = by-eq i j (λ e. e) (λ ne. by-test (ltb j i)
       (λ y. absurd (not-before a x i j b (ltb-true j i y) p q))
       (λ z. absurd (not-before a x j i m (omega (arith, ltb-false j i z)) q p)))
 
-  alone-first : all (aloneAt l) n ≡ true → (i j : ℕ) → unused l i ≡ true → i ≤ j → j < n → unused l j ≡ true
-  alone-first a i j u h m = by-test (unused l j) (λ y. y) (λ used. by-eq i j
+  front-first : all (inFront l) n ≡ true → (i j : ℕ) → unused l i ≡ true → i ≤ j → j < n → unused l j ≡ true
+  unfolding inFront
+  front-first a i j u h m = by-test (unused l j) (λ y. y) (λ used. by-eq i j
       (λ (e : i ≡ j). rw e at u)
-      (λ ne. both u (none-at (unused l) j i (before a j m used .0) (omega arith))))
+      (λ ne. both u (none-at (unused l) j i (not-true _ (rw used at (all-at (inFront l) n j a m))) (omega arith))))
 
   pub good-is : length l ≡ 14 * n → goodList n l ≡ true → Good n l
   unfolding goodList goodAt
   good-is sized h =
       let e = all (goodAt l) n in
-      let a = all (aloneAt l) n in record {
+      let f = all (inFront l) n in
+      let a = all (aloneAt l) n in
+      let rest = and-right e (f && a) h in record {
         sized = sized;
-        each = λ i b. all-at (goodAt l) n i (and-left e a h) b;
-        one-place = alone-one (and-right e a h);
-        used-first = alone-first (and-right e a h);
+        each = λ i b. all-at (goodAt l) n i (and-left e (f && a) h) b;
+        one-place = alone-one (and-right f a rest);
+        used-first = front-first (and-left f a rest);
       }
+
+  facts-front : Good n l → (i : ℕ) → i < n → inFront l i ≡ true
+  unfolding inFront
+  facts-front g i b = by-test (unused l i)
+      (λ f. rw f)
+      (λ u. rw (u, none-from (unused l) i (λ j m. sym (refuted _ (λ f. both (g .used-first j i f (omega arith) b) u)))))
 
   facts-alone : Good n l → (i : ℕ) → i < n → aloneAt l i ≡ true
   unfolding aloneAt
   facts-alone g i b = by-test (unused l i)
       (λ f. rw f)
       (λ u.
-      let x = stringIn (row 14 l i) in
+      let x = placeString (row 14 l i) in
       let own : listedAt l x i ≡ true = is-holds l x i (record { used = u; string = same-string-refl x }) in
-      rw (u, none-from (unused l) i (λ j m. sym (refuted _ (λ f. both (g .used-first j i f (omega arith) b) u))), none-from (listedAt l x) i (λ j m. sym (refuted _ (λ h. let e = g .one-place x i j b (omega arith) own h in omega arith)))))
+      rw (u, none-from (listedAt l x) i (λ j m. sym (refuted _ (λ h. let e = g .one-place x i j b (omega arith) own h in omega arith)))))
 
   pub is-good : Good n l → goodList n l ≡ true
   unfolding goodList goodAt
-  is-good g = rw (all-from (goodAt l) n (g .each), all-from (aloneAt l) n (facts-alone g))
+  is-good g = rw (all-from (goodAt l) n (g .each), all-from (inFront l) n (facts-front g), all-from (aloneAt l) n (facts-alone g))
+
+-- the used places of a list: those before the first unused one keep the rule, and a used one behind it breaks it
+module _ (l : List ℕ) (n : ℕ) where
+  pub front-starts : Passing (inFront l) n (first (unused l) n)
+  unfolding inFront
+  front-starts = (first-most (unused l) n, all-from (inFront l) (first (unused l) n) (λ i b. rw (first-least (unused l) n i b, none-from (unused l) i (λ j m. first-least (unused l) n j (omega arith)))))
+
+  pub front-breaks : (i : ℕ) → first (unused l) n ≤ i → i < n → unused l i ≡ false → inFront l i ≡ false
+  unfolding inFront
+  front-breaks i h b used =
+      let found = first-found (unused l) n (found-if (unused l) n (omega arith)) in
+      by-eq (first (unused l) n) i
+      (λ (e : first (unused l) n ≡ i). both (rw e at (found .1)) used)
+      (λ ne. rw (used, any-at (unused l) i (first (unused l) n) (omega arith) (found .1)))

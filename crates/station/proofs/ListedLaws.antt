@@ -15,7 +15,7 @@ use Rattle.rows.proofs.IndexLaws.{any-at, none-from, first-found, first-none, f
 use Rattle.terms.specs.declared.LockString.{LockString}
 use Rattle.terms.specs.Strings.{legal, sameString}
 use Rattle.terms.proofs.StringLaws.{legal-same, same-string-refl, same-string-sym, same-string-trans, same-string-normal}
-use Rattle.station.specs.State.{listLength, limit, placeCount, stringIn, unused, listedAt, isListed, placeOf, listed, added}
+use Rattle.station.specs.State.{listLength, limit, placeCount, placeString, unused, listedAt, isListed, placeOf, listed, added}
 use Rattle.station.specs.Asks.{struck}
 use Rattle.station.proofs.PlaceLaws.{holds-is, is-holds, unused-holds, holds-same, zeros-good, used-legal, placed, placed-string, placed-used}
 use Rattle.station.proofs.GoodLaws.{Good}
@@ -71,14 +71,14 @@ module _ {n : ℕ} {l : List ℕ} (g : Good n l) where
       end-unused h = unfold listed in first-found (unused l) (placeCount l) (found-if (unused l) (placeCount l) (unfold listed in counted h)) .1
 
   -- each of them holds a string that is listed, and no two the same
-  own : (i : ℕ) → i < listed l → listedAt l (stringIn (row 14 l i)) i ≡ true
+  own : (i : ℕ) → i < listed l → listedAt l (placeString (row 14 l i)) i ≡ true
   own i b = is-holds l _ i (record { used = below-used l i b; string = same-string-refl _ })
 
-  pub below-listed : (i : ℕ) → i < listed l → isListed l (stringIn (row 14 l i)) ≡ true
+  pub below-listed : (i : ℕ) → i < listed l → isListed l (placeString (row 14 l i)) ≡ true
   below-listed i b = place-listed l _ i (counted (omega (arith, listed-inside))) (own i b)
 
-  pub below-one : (i j : ℕ) → i < listed l → j < listed l → sameString (stringIn (row 14 l i)) (stringIn (row 14 l j)) ≡ true → i ≡ j
-  below-one i j b c s = g .one-place (stringIn (row 14 l j)) i j (omega (arith, listed-inside)) (omega (arith, listed-inside))
+  pub below-one : (i j : ℕ) → i < listed l → j < listed l → sameString (placeString (row 14 l i)) (placeString (row 14 l j)) ≡ true → i ≡ j
+  below-one i j b c s = g .one-place (placeString (row 14 l j)) i j (omega (arith, listed-inside)) (omega (arith, listed-inside))
       (is-holds l _ i (record { used = below-used l i b; string = s }))
       (own j c)
 
@@ -94,7 +94,7 @@ adds-listed {n} {k} {l} {l′} x full lawful a sized y =
 module _ {n k : ℕ} {l l′ : List ℕ} (g : Good n l) (s : Strikes n k l l′) where
   pub struck-holds : (y : LockString) (j : ℕ) → j < n → listedAt l′ y j ≡ listedAt l y (stood k j)
   unfolding listedAt unused
-  struck-holds y j b = s .rows (λ r. not (eqb (getD r 0 0) 0) && sameString (stringIn r) y) refl j b
+  struck-holds y j b = s .rows (λ r. not (eqb (getD r 0 0) 0) && sameString (placeString r) y) refl j b
 
   -- what is found in place j stood in a place of the list
   pub struck-stood : (y : LockString) (j : ℕ) → j < n → listedAt l′ y j ≡ true → (stood k j < n) × (listedAt l y (stood k j) ≡ true)
@@ -122,7 +122,7 @@ module _ {n k : ℕ} {l l′ : List ℕ} (g : Good n l) (s : Strikes n k l l′)
           let apart : sameString x y ≡ false = not-true _ (and-right (isListed l y) (not (sameString x y)) h) in
           let i = placeOf l y in
           by-place-now k n i
-          (λ e. both (same-string-trans x (stringIn (row 14 l k)) y (same-string-sym _ x (holds-is l x k held .string)) (rw e at (holds-is l y i (p .1) .string))) apart)
+          (λ e. both (same-string-trans x (placeString (row 14 l k)) y (same-string-sym _ x (holds-is l x k held .string)) (rw e at (holds-is l y i (p .1) .string))) apart)
           (within g (p .0))
           (λ j b e. place-listed l′ y j (omega (arith, s .long, g .sized)) (struck-holds y j b ∙ rw e (p .1)))
 

@@ -1,3 +1,4 @@
+use Rattle.terms.specs.Strings.{stringAt}
 -- The frame awaited: what 15 good bytes are, and the request that they are the frame of.
 use Prim.Native.Nat.{ℕ}
 use native.Mathlib.Omega.{arith}
@@ -20,7 +21,7 @@ use Rattle.frames.specs.declared.Request.{Request}
 use Rattle.frames.specs.Table.{LOCK, UNLOCK, CLEAR}
 use Rattle.frames.specs.Requests.{noString, plain, carriedBy, carried}
 use Rattle.frames.specs.Reading.{readingOf}
-use Rattle.frames.specs.Writing.{stringFields, codeOf, fieldsOf, frameOf}
+use Rattle.frames.specs.Writing.{codeOf, fieldsOf, frameOf}
 use Rattle.frames.proofs.FieldLaws.{string-again}
 use Rattle.frames.proofs.RoundTrips.{Sized, Typed, reads-back}
 use Rattle.station.specs.State.{waitOf, codeIn, askedIn, nothing}
@@ -41,7 +42,7 @@ pub data WaitCase : List ℕ → Type 0 where
 
 module _ (v : List ℕ) (long : length v ≡ 15) where
   pub asked-full : length (askedIn v .bytes) ≡ 13
-  unfolding askedIn
+  unfolding askedIn stringAt
   asked-full = length-part v 2 13 (omega arith)
 
   zeros-behind : (k : ℕ) → codeIn v ≡ k → zeros (part v 1 14) ≡ true → k ∷ replicate 14 0 ≡ v
@@ -52,7 +53,7 @@ module _ (v : List ℕ) (long : length v ≡ 15) where
       rw (← all-zero, tail, ← e) (sym (drop-cons v 0 0 (omega arith)))
 
   wait-case : goodWait v ≡ true → WaitCase v
-  unfolding goodWait awaited askedIn codeIn
+  unfolding goodWait awaited askedIn codeIn stringAt
   wait-case good =
       by-eq (codeIn v) LOCK (λ e. subst WaitCase (string-again v e long) (waiting (locking (askedIn v) asked-full))) λ nl.
       by-eq (codeIn v) UNLOCK (λ e. subst WaitCase (string-again v e long) (waiting (unlocking (askedIn v) asked-full))) λ nu.
@@ -79,7 +80,7 @@ case-long (waiting clearing) = refl
 
 -- the string asked for stands in the bytes awaited, as it was asked
 pub asked-back : (code : ℕ) (x : LockString) → length (x .bytes) ≡ 13 → askedIn (awaited code x) ≡ x
-unfolding askedIn awaited
+unfolding askedIn awaited stringAt
 asked-back code x full = rw (part-end (code ∷ x .len ∷ []) (x .bytes) 2 13 refl full)
 
 -- what a good state awaits, and what it awaits where it waits
@@ -88,7 +89,7 @@ module _ (st : List ℕ) (good : goodState st ≡ true) where
   state-wait = let g = state-is st good in wait-case (waitOf st) (wait-long st (g .sized)) (g .wait)
 
   pub state-awaits : waits st ≡ true → Awaits (waitOf st) (commandFor (codeIn (waitOf st))) (askedIn (waitOf st))
-  unfolding waits commandFor codeIn awaited
+  unfolding waits commandFor codeIn awaited stringAt
   state-awaits w = go state-wait (eqb-false _ _ (not-true _ w))
     where
       go : {v : List ℕ} → WaitCase v → (codeIn v ≡ 0 → ⊥) → Awaits v (commandFor (codeIn v)) (askedIn v)
@@ -103,7 +104,7 @@ asking c x = record { command = c; name = replicate 8 0; password = replicate 6 
 
 -- the frame awaited is the frame of that request
 pub awaited-frame : {v : List ℕ} {c : Command} {x : LockString} → Awaits v c x → frameOf (asking c x) ≡ frameAwaited v
-unfolding frameAwaited frameOf codeOf fieldsOf stringFields codeIn awaited
+unfolding frameAwaited frameOf codeOf fieldsOf codeIn awaited
 awaited-frame (locking x full) = refl
 awaited-frame (unlocking x full) = refl
 awaited-frame clearing = refl

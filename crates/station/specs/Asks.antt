@@ -7,7 +7,7 @@ use lib.Dec.{eqb, ltb}
 use lib.ListN.{length, replicate}
 use Rattle.rows.specs.Rows.{over}
 use Rattle.terms.specs.declared.LockString.{LockString}
-use Rattle.terms.specs.Strings.{legal}
+use Rattle.terms.specs.Strings.{stringBytes, legal}
 use Rattle.frames.specs.declared.Command.{Command}
 use Rattle.frames.specs.declared.Command.the-variants.{Lock, Unlock, Clear}
 use Rattle.frames.specs.Table.{LOCK, UNLOCK, CLEAR}
@@ -29,7 +29,7 @@ struck l x = cond (legal x && isListed l x) (struckAt l (placeOf l x)) l
 
 -- the 15 bytes to await
 unfoldable pub awaited : ℕ → LockString → List ℕ
-awaited code x = code ∷ x .len ∷ x .bytes
+awaited code x = code ∷ stringBytes x
 
 abbrev pub awaitedClear : List ℕ
 awaitedClear = CLEAR ∷ replicate 14 0

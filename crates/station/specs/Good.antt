@@ -8,23 +8,27 @@ use Rattle.rows.specs.Words.{all, any, zeros}
 use Rattle.rows.specs.Rows.{part, row}
 use Rattle.terms.specs.Strings.{legal}
 use Rattle.frames.specs.Table.{LOCK, UNLOCK, CLEAR}
-use Rattle.station.specs.State.{limit, stateLength, listOf, waitOf, stringIn, unused, listedAt, codeIn}
+use Rattle.station.specs.State.{limit, stateLength, listOf, waitOf, placeString, unused, listedAt, codeIn}
 
 -- zeros in unused places; in used ones lengths 1 to 13 and zeros after the string
 unfoldable pub goodPlace : List ℕ → Bool
 goodPlace r =
     cond (eqb (getD r 0 0) 0) (zeros r)
-    (legal (stringIn r) && zeros (part r (1 + getD r 0 0) (13 - getD r 0 0)))
+    (legal (placeString r) && zeros (part r (1 + getD r 0 0) (13 - getD r 0 0)))
 
 unfoldable pub goodAt : List ℕ → ℕ → Bool
 goodAt l i = goodPlace (row 14 l i)
 
--- no string twice, and no used place after an unused one
+-- no used place after an unused one
+unfoldable pub inFront : List ℕ → ℕ → Bool
+inFront l i = unused l i || not (any (unused l) i)
+
+-- no string twice: no earlier place holds this one's
 unfoldable pub aloneAt : List ℕ → ℕ → Bool
-aloneAt l i = unused l i || not (any (unused l) i || any (listedAt l (stringIn (row 14 l i))) i)
+aloneAt l i = unused l i || not (any (listedAt l (placeString (row 14 l i))) i)
 
 unfoldable pub goodList : ℕ → List ℕ → Bool
-goodList n l = all (goodAt l) n && all (aloneAt l) n
+goodList n l = all (goodAt l) n && (all (inFront l) n && all (aloneAt l) n)
 
 -- the 15 bytes awaited: code 0, 19, 1A or 1B; zeros after code 0 and 1B
 unfoldable pub goodWait : List ℕ → Bool

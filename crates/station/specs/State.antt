@@ -1,13 +1,14 @@
 -- A station's state: the places of its list, 14 bytes each (length, 13 bytes; length 0 is unused), then the 15 bytes of the frame awaited.
 use Prim.Native.Nat.{ℕ, _+_, _*_, _/_}
 use mathlib.Core.Bool.{Bool, not, _&&_}
-use mathlib.Core.List.{List, _∷_, _++_}
+use mathlib.Core.List.{List, _++_}
 use lib.Dec.{eqb}
 use lib.ListN.{length, getD, take, drop, replicate}
 use Rattle.rows.specs.Words.{any, first}
-use Rattle.rows.specs.Rows.{part, put, row}
+use Rattle.rows.specs.Rows.{put, row}
+use Rattle.terms.specs.declared.table.Shape.{Shape}
 use Rattle.terms.specs.declared.LockString.{LockString}
-use Rattle.terms.specs.Strings.{sameString, normal}
+use Rattle.terms.specs.Strings.{stringAt, stringBytes, sameString, normal}
 
 -- at most 64 locks
 abbrev pub limit : ℕ
@@ -29,15 +30,19 @@ waitOf st = drop listLength st
 abbrev pub placeCount : List ℕ → ℕ
 placeCount l = length l / 14
 
-unfoldable pub stringIn : List ℕ → LockString
-stringIn r = record { len = getD r 0 0; bytes = part r 1 13 }
+unfoldable pub placeString : List ℕ → LockString
+placeString r = stringAt r 0
+
+-- how the places hold their strings
+abbrev pub places : Shape
+places = record { width = 14; string = 0; free = 0 }
 
 unfoldable pub unused : List ℕ → ℕ → Bool
 unused l i = eqb (getD (row 14 l i) 0 0) 0
 
 -- place i holds x
 unfoldable pub listedAt : List ℕ → LockString → ℕ → Bool
-listedAt l x i = not (unused l i) && sameString (stringIn (row 14 l i)) x
+listedAt l x i = not (unused l i) && sameString (placeString (row 14 l i)) x
 
 unfoldable pub isListed : List ℕ → LockString → Bool
 isListed l x = any (listedAt l x) (placeCount l)
@@ -51,7 +56,7 @@ listed l = first (unused l) (placeCount l)
 
 -- a new string goes to the end, with zeros after it
 unfoldable pub added : List ℕ → LockString → List ℕ
-added l x = put l (14 * listed l) (x .len ∷ normal x .bytes)
+added l x = put l (14 * listed l) (stringBytes (normal x))
 
 -- striking one keeps the order of the rest
 unfoldable pub struckAt : List ℕ → ℕ → List ℕ
@@ -62,7 +67,7 @@ unfoldable pub codeIn : List ℕ → ℕ
 codeIn v = getD v 0 0
 
 unfoldable pub askedIn : List ℕ → LockString
-askedIn v = record { len = getD v 1 0; bytes = part v 2 13 }
+askedIn v = stringAt v 1
 
 abbrev pub nothing : List ℕ
 nothing = replicate 15 0

@@ -40,6 +40,9 @@ pub fn is_good(state: &[u8]) -> bool
     if !rules::places_good(list, LIMIT) {
         return false;
     }
+    if !rules::used_first(list, LIMIT) {
+        return false;
+    }
     if !rules::places_alone(list, LIMIT) {
         return false;
     }
@@ -73,10 +76,9 @@ fn await_string(state: &mut [u8], code: u8, s: LockString)
     requires { ⌜ length (now state) ≡ stateLength ⌝ }
     ensures { λ _. ⌜ now (state .exit) ≡ listOf (now (state .entry)) ++ awaited code s ⌝ }
 {
-    let head = [code, s.len];
-    let bytes = s.bytes;
+    let head = [code];
     rows::put(state, LIST, &head);
-    rows::put(state, LIST + 2, &bytes);
+    terms::put_string(state, LIST + 1, s);
 }
 
 // Asks for a lock.

@@ -1,23 +1,27 @@
 // A station's list of locks: places of 14 lent bytes, length and string, the used ones first.
 use terms::LockString;
+use terms::table;
+use terms::table::Shape;
 ghost use mathlib.Core.Path.{_≡_};
-ghost use mathlib.Core.List.{_∷_};
 ghost use Prim.Native.Nat.{_+_, _*_, _≤_};
 ghost use lib.ListN.{length};
 ghost use Rattle.rows.specs.Words.{first};
-ghost use Rattle.rows.specs.Rows.{row, put as putIn};
-ghost use Rattle.terms.specs.Strings.{normal};
-ghost use Rattle.station.specs.State.{listLength, stringIn, unused, listedAt, struckAt};
+ghost use Rattle.rows.specs.Rows.{put as putIn};
+ghost use Rattle.terms.specs.Strings.{stringBytes, normal};
+ghost use Rattle.station.specs.State.{listLength, places, unused, listedAt, struckAt};
 ghost use Rattle.station.specs.Asks.{struck};
 
 pub const PLACE: usize = 14;
 
-// The string in place i, by value.
-pub fn string_at(list: &[u8], i: usize) -> LockString
-    requires { ⌜ 14 * i + 14 ≤ length (now list) ⌝ }
-    ensures { λ s. ⌜ s ≡ stringIn (row 14 (now (list .entry)) i) ⌝ }
+// How the places hold their strings.
+pub fn shape() -> Shape
+    ensures { λ r. ⌜ r ≡ places ⌝ }
 {
-    terms::string_at(list, PLACE * i)
+    Shape {
+        width: PLACE,
+        string: 0,
+        free: 0,
+    }
 }
 
 // Place i is unused.
@@ -28,30 +32,12 @@ pub fn is_unused(list: &[u8], i: usize) -> bool
     list[PLACE * i] == 0
 }
 
-// Place i holds s.
-fn holds(list: &[u8], i: usize, s: LockString) -> bool
-    requires { ⌜ 14 * i + 14 ≤ length (now list) ⌝ }
-    ensures { λ r. ⌜ r ≡ listedAt (now (list .entry)) s i ⌝ }
-{
-    if is_unused(list, i) {
-        return false;
-    }
-    terms::is_string_at(list, PLACE * i, s)
-}
-
 // The first of n places that holds s, or n.
 pub fn find(list: &[u8], n: usize, s: LockString) -> usize
     requires { ⌜ 14 * n ≤ length (now list) ⌝ }
     ensures { λ r. ⌜ r ≡ first (listedAt (now (list .entry)) s) n ⌝ }
 {
-    let mut i: usize = 0;
-    while i < n {
-        if holds(list, i, s) {
-            return i;
-        }
-        i += 1;
-    }
-    n
+    table::find(list, shape(), n, s)
 }
 
 // The first of n places that is unused, or n: how many strings are listed.
@@ -72,13 +58,9 @@ pub fn count(list: &[u8], n: usize) -> usize
 // Puts s down in place i, with zeros after it.
 pub fn put(list: &mut [u8], i: usize, s: LockString)
     requires { ⌜ 14 * i + 14 ≤ length (now list) ⌝ }
-    ensures { λ _. ⌜ now (list .exit) ≡ putIn (now (list .entry)) (14 * i) (s .len ∷ normal s .bytes) ⌝ }
+    ensures { λ _. ⌜ now (list .exit) ≡ putIn (now (list .entry)) (14 * i) (stringBytes (normal s)) ⌝ }
 {
-    let plain = terms::normal(s);
-    let head = [s.len];
-    let bytes = plain.bytes;
-    rows::put(list, PLACE * i, &head);
-    rows::put(list, PLACE * i + 1, &bytes);
+    terms::put_string(list, PLACE * i, terms::normal(s));
 }
 
 // Strikes place i: the places after it move down by one, and the last becomes unused.

@@ -1,11 +1,16 @@
 // The rules of a station's state, place by place, and of the frame awaited.
 use crate::list;
 use frames::code;
+use terms::table;
 ghost use mathlib.Core.Path.{_≡_};
-ghost use Prim.Native.Nat.{_+_, _*_, _≤_};
+ghost use Prim.Native.Nat.{ℕ, _+_, _*_, _≤_, _<_};
 ghost use lib.ListN.{length};
+ghost use mathlib.Core.Bool.{false};
 ghost use Rattle.rows.specs.Words.{all};
-ghost use Rattle.station.specs.Good.{goodPlace, goodAt, aloneAt, goodWait};
+ghost use Rattle.rows.specs.Rows.{row};
+ghost use Rattle.terms.specs.Strings.{normal};
+ghost use Rattle.station.specs.State.{placeString, unused};
+ghost use Rattle.station.specs.Good.{goodPlace, goodAt, inFront, aloneAt, goodWait};
 
 fn wide(b: u8) -> usize
     ensures { λ r. ⌜ r ≡ b ⌝ }
@@ -43,33 +48,28 @@ pub fn places_good(list: &[u8], n: usize) -> bool
     true
 }
 
-// Place i is unused, or no earlier place is unused or holds its string.
-fn place_alone(list: &[u8], i: usize) -> bool
-    requires { ⌜ 14 * i + 14 ≤ length (now list) ⌝ }
-    ensures { λ b. ⌜ b ≡ aloneAt (now (list .entry)) i ⌝ }
-{
-    if list::is_unused(list, i) {
-        return true;
-    }
-    if list::count(list, i) < i {
-        return false;
-    }
-    i <= list::find(list, i, list::string_at(list, i))
-}
-
-// No string twice in the first n places, and no used place after an unused one.
-pub fn places_alone(list: &[u8], n: usize) -> bool
+// No used place after an unused one, of the first n.
+pub fn used_first(list: &[u8], n: usize) -> bool
     requires { ⌜ 14 * n ≤ length (now list) ⌝ }
-    ensures { λ b. ⌜ b ≡ all (aloneAt (now (list .entry))) n ⌝ }
+    ensures { λ b. ⌜ b ≡ all (inFront (now (list .entry))) n ⌝ }
 {
-    let mut i: usize = 0;
+    let mut i = list::count(list, n);
     while i < n {
-        if !place_alone(list, i) {
+        if !list::is_unused(list, i) {
             return false;
         }
         i += 1;
     }
     true
+}
+
+// No string twice in the first n places, where zeros stand after each.
+pub fn places_alone(list: &[u8], n: usize) -> bool
+    requires { ⌜ 14 * n ≤ length (now list) ⌝ }
+    requires { ⌜ ((i : ℕ) → i < n → unused (now list) i ≡ false → normal (placeString (row 14 (now list) i)) ≡ placeString (row 14 (now list) i)) ⌝ }
+    ensures { λ b. ⌜ b ≡ all (aloneAt (now (list .entry))) n ⌝ }
+{
+    table::rows_alone(list, list::shape(), n)
 }
 
 // The 15 bytes awaited are a lock, an unlock, a clear with zeros after it, or zeros.

@@ -7,14 +7,15 @@ use mathlib.Core.Bool.{true, _&&_}
 use mathlib.Core.List.{List, _++_, append-nil}
 use lib.Dec.{eqb, leb, lit≤}
 use lib.ListN.{length, getD, take, drop, replicate, length-take, length-drop, take-append-drop, drop-of-length-le}
-use lib.Seq.{take-at, take-all, drop-at}
+use lib.Seq.{getD-drop, take-at, take-all, drop-at}
 use borrow.Author.Tests.{eqb-true, eq-eqb, leb-true, leb-false}
 use Rattle.rows.proofs.BoolLaws.{by-test, and-left, and-right, and-both}
+use Rattle.rows.proofs.IndexLaws.{all-at, all-from}
 use Rattle.rows.proofs.BuildLaws.{same-is, same-refl, zeros-is, drop-zeros}
 use Rattle.rows.proofs.RowLaws.{length-part, getD-part, part-part, length-over}
 use Rattle.rows.specs.Marks.{hash}
 use Rattle.rows.specs.Numbers.{lowFirst}
-use Rattle.rows.specs.Words.{same, zeros}
+use Rattle.rows.specs.Words.{same, zeroAt, zeros}
 use Rattle.rows.specs.Rows.{part, over}
 use Rattle.terms.specs.declared.LockString.{LockString}
 use Rattle.terms.specs.Strings.{stringAt, legal, key, sameString, normal}
@@ -32,6 +33,11 @@ unfolding stringAt
 string-inside l from w at h =
     let next : from + (at + 1) ≡ from + at + 1 = omega arith in
     rw (getD-part l from w at (omega arith), part-part l from w (at + 1) 13 (omega arith), next)
+
+-- its bytes are thirteen
+pub string-long : (l : List ℕ) (at : ℕ) → at + 14 ≤ length l → length (stringAt l at .bytes) ≡ 13
+unfolding stringAt
+string-long l at h = length-part l (at + 1) 13 (omega arith)
 
 -- how long the first length bytes are
 pub length-key : (s : LockString) → length (key s) ≡ min (s .len) (length (s .bytes))
@@ -171,3 +177,26 @@ module _ (s : LockString) (full : length (s .bytes) ≡ 13) where
           ap (λ (k : ℕ). key s ++ drop k (replicate 13 0)) long
           ∙ ap (λ (l : List ℕ). key s ++ l) rest
           ∙ take-append-drop (s .len) (s .bytes)
+
+-- a string that stands in bytes, with zeros after it
+module _ (r : List ℕ) (at z : ℕ) (fits : at + 14 ≤ length r) (short : stringAt r at .len ≤ 13) (enough : 13 - stringAt r at .len ≤ z) (inside : at + 1 + stringAt r at .len + z ≤ length r) (after : zeros (part r (at + 1 + stringAt r at .len) z) ≡ true) where
+  -- byte k after the string, among its bytes
+  byte-after : (k : ℕ) → k < 13 - stringAt r at .len → getD (drop (stringAt r at .len) (stringAt r at .bytes)) k 0 ≡ 0
+  unfolding stringAt zeros zeroAt
+  byte-after k l =
+      let n = getD r at 0 in
+      let rest = part r (at + 1 + n) z in
+      let here : at + 1 + n + k ≡ at + 1 + (n + k) = omega arith in
+      getD-drop n (part r (at + 1) 13) k 0
+      ∙ getD-part r (at + 1) 13 (n + k) (omega arith)
+      ∙ ap (λ (j : ℕ). getD r j 0) (sym here)
+      ∙ sym (getD-part r (at + 1 + n) z k (omega arith))
+      ∙ eqb-true _ _ (all-at (zeroAt rest) (length rest) k after (omega (arith, length-part r (at + 1 + n) z inside)))
+
+  pub string-normal : normal (stringAt r at) ≡ stringAt r at
+  unfolding zeros zeroAt
+  string-normal =
+      let bytes = drop (stringAt r at .len) (stringAt r at .bytes) in
+      let full : length (stringAt r at .bytes) ≡ 13 = string-long r at fits in
+      zeros-normal (stringAt r at) full short
+      (all-from (zeroAt bytes) (length bytes) (λ k l. eq-eqb _ _ (byte-after k (omega (arith, length-drop (stringAt r at .len) (stringAt r at .bytes))))))

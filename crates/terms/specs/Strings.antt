@@ -1,7 +1,7 @@
 -- Lock strings: when one is legal, when two are the same, and the form with zeros after the string.
 use Prim.Native.Nat.{ℕ, _+_}
 use mathlib.Core.Bool.{Bool, _&&_}
-use mathlib.Core.List.{List}
+use mathlib.Core.List.{List, _∷_}
 use lib.Dec.{eqb, leb}
 use lib.ListN.{getD, take, replicate}
 use Rattle.rows.specs.Words.{same}
@@ -11,6 +11,10 @@ use Rattle.terms.specs.declared.LockString.{LockString}
 -- the string that stands in bytes, its length first
 unfoldable pub stringAt : List ℕ → ℕ → LockString
 stringAt l at = record { len = getD l at 0; bytes = part l (at + 1) 13 }
+
+-- the bytes in which a string stands, its length first
+abbrev pub stringBytes : LockString → List ℕ
+stringBytes s = s .len ∷ s .bytes
 
 -- length 1 to 13
 unfoldable pub legal : LockString → Bool

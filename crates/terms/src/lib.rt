@@ -5,8 +5,9 @@ pub mod table;
 ghost use mathlib.Core.Path.{_≡_};
 ghost use Prim.Native.Nat.{_+_, _≤_, _<_, min};
 ghost use Rattle.rows.specs.Outcomes.{Gives};
+ghost use Rattle.rows.specs.Rows.{put};
 ghost use lib.ListN.{length};
-ghost use Rattle.terms.specs.Strings.{legal, stringAt, key, normal as normalOf};
+ghost use Rattle.terms.specs.Strings.{legal, stringAt, stringBytes, key, normal as normalOf};
 ghost use Rattle.terms.specs.Shortcuts.{stringHash};
 
 pub struct Volume(pub u8);
@@ -63,6 +64,17 @@ pub fn string_at(bytes: &[u8], at: usize) -> LockString
         len: bytes[at],
         bytes: rows::thirteen_of(bytes, at + 1),
     }
+}
+
+// Puts the string down at `at`, its length first: fourteen bytes in all.
+pub fn put_string(bytes: &mut [u8], at: usize, s: LockString)
+    requires { ⌜ at + 14 ≤ length (now bytes) ⌝ }
+    ensures { λ _. ⌜ (now (bytes .exit) ≡ put (now (bytes .entry)) at (stringBytes s)) × (length (stringBytes s) ≡ 14) ⌝ }
+{
+    let head = [s.len];
+    let own = s.bytes;
+    rows::put(bytes, at, &head);
+    rows::put(bytes, at + 1, &own);
 }
 
 // The bytes of the string that stands at `at`, as many as its length says, where they stand.

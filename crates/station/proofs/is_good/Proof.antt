@@ -1,13 +1,16 @@
-use Prim.Native.Nat.{_-_}
-use lib.ListN.{length, drop, length-drop}
-use mathlib.Core.Path.{ap, sym, _∙_}
-use lib.Seq.{take-all}
-use native.Mathlib.Omega.{arith}
-use denote.Ref.{now}
-use borrow.Author.Tests.{eq-eqb, ne-eqb, not-true, not-false}
+use Rattle.station.proofs.PlaceLaws.{place-normal}
 use Rattle.station.proofs.StateLaws.{list-long}
-use Rattle.station.specs.Good.{goodList, goodWait, goodState}
+use Rattle.station.specs.Good.{goodAt, goodList, goodWait, goodState}
 use Rattle.station.specs.State.{listOf, waitOf}
+use Rattle.rows.proofs.IndexLaws.{all-at}
+use Rattle.rows.proofs.RowLaws.{length-row}
+use borrow.Author.Tests.{eq-eqb, ne-eqb, not-true, not-false}
+use denote.Ref.{now}
+use lib.ListN.{length, take, drop, length-drop}
+use lib.Seq.{take-all}
+use mathlib.Core.Path.{ap, sym, _∙_}
+use native.Mathlib.Omega.{arith}
+use Prim.Native.Nat.{_-_, _*_, _≤_}
 use borrow.Author.Needs.{needs}
 use Rattle.station.proofs.is_good.Statement.{statement}
 use Rattle.station.proofs.is_good.Tie as tie
@@ -28,30 +31,45 @@ returns-2 : tie.Need-returns-2
 unfolding goodState goodList listOf
 returns-2 c = record { answer = rw (eq-eqb _ _ (c .before .before .before .if1 .left), sym (c .before .places-good .ensures) ∙ not-true _ (c .if2 .taken)) }
 
-places-alone-requires : tie.Need-places-alone-requires
+used-first-requires : tie.Need-used-first-requires
 unfolding listOf
-places-alone-requires c κs = omega (arith, list-long (now (c .before .before .before .before .before .args .state)) (c .before .before .before .if1 .left))
+used-first-requires c κs =
+    let size = c .before .before .before in
+    omega (arith, list-long (now (size .before .before .args .state)) (size .if1 .left))
 
 returns-3 : tie.Need-returns-3
 unfolding goodState goodList listOf
-returns-3 c = record { answer = rw (eq-eqb _ _ (c .before .before .before .before .before .if1 .left), sym (c .before .before .before .places-good .ensures) ∙ not-false _ (c .before .before .if2 .left), sym (c .before .places-alone .ensures) ∙ not-true _ (c .if3 .taken)) }
+returns-3 c =
+    let places = c .before .before in
+    record { answer = rw (eq-eqb _ _ (places .before .before .before .if1 .left), sym (places .before .places-good .ensures) ∙ not-false _ (places .if2 .left), sym (c .before .used-first .ensures) ∙ not-true _ (c .if3 .taken)) }
 
-sub-wait-good : tie.Need-sub-wait-good
-sub-wait-good c = search needs
-
-part-wait-good-start : tie.Need-part-wait-good-start
-part-wait-good-start c = search needs
-
-part-wait-good-end : tie.Need-part-wait-good-end
-part-wait-good-end c = search needs
-
-wait-good-requires : tie.Need-wait-good-requires
-wait-good-requires c κs = search needs
+places-alone-requires : tie.Need-places-alone-requires
+unfolding listOf goodAt
+places-alone-requires c κs =
+    let places = c .before .before in
+    let size = places .before .before .before in
+    let st = now (size .before .before .args .state) in
+    let long = list-long st (size .if1 .left) in
+    let l = take 896 st in
+    let sized : 14 * 64 ≤ length l = omega (arith, long) in
+    (sized, λ i b used. place-normal l i (length-row 14 64 l sized i b) (all-at (goodAt l) 64 i (sym (places .before .places-good .ensures) ∙ not-false _ (places .if2 .left)) b) used)
 
 returns-4 : tie.Need-returns-4
+unfolding goodState goodList listOf
+returns-4 c =
+    let front = c .before .before in
+    let places = front .before .before in
+    record { answer = rw (eq-eqb _ _ (places .before .before .before .if1 .left), sym (places .before .places-good .ensures) ∙ not-false _ (places .if2 .left), sym (front .before .used-first .ensures) ∙ not-false _ (front .if3 .left), sym (c .before .places-alone .ensures) ∙ not-true _ (c .if4 .taken)) }
+
+returns-5 : tie.Need-returns-5
 unfolding goodState goodList listOf waitOf
-returns-4 c = let st = now (c .before .before .before .before .before .before .before .before .before .args .state) in
-    record { answer = rw (eq-eqb _ _ (c .before .before .before .before .before .before .before .if1 .left), sym (c .before .before .before .before .before .places-good .ensures) ∙ not-false _ (c .before .before .before .before .if2 .left), sym (c .before .before .before .places-alone .ensures) ∙ not-false _ (c .before .before .if3 .left)) (c .wait-good .ensures ∙ ap goodWait (take-all (length st - 896) (drop 896 st) (omega (arith, length-drop 896 st)))) }
+returns-5 c =
+    let alone = c .before .before in
+    let front = alone .before .before in
+    let places = front .before .before in
+    let size = places .before .before .before in
+    let st = now (size .before .before .args .state) in
+    record { answer = rw (eq-eqb _ _ (size .if1 .left), sym (places .before .places-good .ensures) ∙ not-false _ (places .if2 .left), sym (front .before .used-first .ensures) ∙ not-false _ (front .if3 .left), sym (alone .before .places-alone .ensures) ∙ not-false _ (alone .if4 .left)) (c .wait-good .ensures ∙ ap goodWait (take-all (length st - 896) (drop 896 st) (omega (arith, length-drop 896 st)))) }
 
 pub is-good-spec : {M : Type 1} → statement M
 is-good-spec =
@@ -61,10 +79,12 @@ is-good-spec =
     slice-aggregate-list
     places-good-requires
     returns-2
-    places-alone-requires
+    used-first-requires
     returns-3
-    sub-wait-good
-    part-wait-good-start
-    part-wait-good-end
-    wait-good-requires
-    returns-4)
+    places-alone-requires
+    returns-4
+    (λ c. search needs)
+    (λ c. search needs)
+    (λ c. search needs)
+    (λ c κs. search needs)
+    returns-5)

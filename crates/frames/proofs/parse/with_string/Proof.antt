@@ -1,5 +1,5 @@
 use Rattle.frames.specs.Requests.{plain}
-use Rattle.frames.specs.Reading.{stringIn}
+use Rattle.frames.specs.Reading.{stringRequest}
 use Rattle.terms.specs.Strings.{stringAt}
 use borrow.Author.Needs.{needs}
 use Rattle.frames.proofs.parse.with_string.Statement.{statement}
@@ -12,7 +12,7 @@ plain-requires : tie.Need-plain-requires
 plain-requires c κs = search needs
 
 returns : tie.Need-returns
-unfolding stringIn plain stringAt
+unfolding stringRequest plain stringAt
 returns c = rw (c .plain .ensures, c .before .string-at .ensures)
 
 pub with-string-spec : {M : Type 1} → statement M

@@ -11,22 +11,12 @@ use Prim.Native.Nat.{ℕ}
 use borrow.Author.Needs.{needs}
 use Rattle.locks.proofs.row.find_string.Statement.{statement}
 use Rattle.locks.proofs.row.find_string.Tie as tie
-use Rattle.locks.proofs.row.find_string.Reads as reads
-use Rattle.locks.proofs.row.find_string.Lts as lts
-use Rattle.locks.proofs.row.shape.Reads as shape-reads
-use Rattle.terms.proofs.table.find.Reads as find-reads
 
--- src/row.rt:46:24
-shape-requires : tie.Need-shape-requires
-shape-requires c κs = search needs
-
--- src/row.rt:46:5
 find-requires : tie.Need-find-requires
 find-requires c κs = rw (c .shape .ensures) (c .before .before .pre, lit≤ tt)
 
--- src/row.rt:42:1
 returns : tie.Need-returns
-returns c = 
+returns c =
     let a = c .before .before .before .args in
     let t = now (a .table) in
     c .find .ensures
@@ -34,4 +24,4 @@ returns c =
     ∙ ap (λ (p : ℕ → Bool). first p (a .n)) (held-holds t (a .s))
 
 pub find-string-spec : {M : Type 1} → statement M
-find-string-spec = tie.close (tie.spec shape-requires find-requires returns)
+find-string-spec = tie.close (tie.spec (λ c κs. search needs) find-requires returns)

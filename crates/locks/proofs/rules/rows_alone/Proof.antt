@@ -11,25 +11,15 @@ use Prim.Native.Nat.{ℕ}
 use borrow.Author.Needs.{needs}
 use Rattle.locks.proofs.rules.rows_alone.Statement.{statement}
 use Rattle.locks.proofs.rules.rows_alone.Tie as tie
-use Rattle.locks.proofs.rules.rows_alone.Reads as reads
-use Rattle.locks.proofs.rules.rows_alone.Lts as lts
-use Rattle.locks.proofs.row.shape.Reads as shape-reads
-use Rattle.terms.proofs.table.rows_alone.Reads as rows-alone-reads
 
--- src/rules.rt:64:30
-shape-requires : tie.Need-shape-requires
-shape-requires c κs = search needs
-
--- src/rules.rt:64:5
 rows-alone-requires : tie.Need-rows-alone-requires
-rows-alone-requires c κs = 
+rows-alone-requires c κs =
     let start = c .before .before in
     let t = now (start .args .table) in
     rw (c .shape .ensures) (start .pre .0, (lit≤ tt, λ i l used. ap normal (string-row t i) ∙ start .pre .1 i l (sym (free-row t i) ∙ used) ∙ sym (string-row t i)))
 
--- src/rules.rt:59:1
 returns : tie.Need-returns
-returns c = 
+returns c =
     let a = c .before .before .before .args in
     let t = now (a .table) in
     c .rows-alone .ensures
@@ -37,4 +27,4 @@ returns c =
     ∙ ap (λ (p : ℕ → Bool). all p (a .n)) (alone-rows t)
 
 pub rows-alone-spec : {M : Type 1} → statement M
-rows-alone-spec = tie.close (tie.spec shape-requires rows-alone-requires returns)
+rows-alone-spec = tie.close (tie.spec (λ c κs. search needs) rows-alone-requires returns)

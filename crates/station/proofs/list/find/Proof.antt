@@ -1,48 +1,26 @@
-use Prim.Native.Nat.{_-_}
-use mathlib.Core.Path.{sym, _∙_}
-use native.Mathlib.Omega.{arith}
-use Rattle.rows.proofs.IndexLaws.{Searching, search-starts, search-on, search-hit, search-ends}
-use Rattle.station.specs.State.{listedAt}
+use Rattle.station.proofs.PlaceLaws.{held-listed}
+use Rattle.terms.specs.declared.table.Shape.{Shape}
+use Rattle.terms.specs.Tables.{rowHolds}
+use Rattle.rows.specs.Words.{first}
+use denote.Ref.{now}
+use lib.Dec.{lit≤}
+use mathlib.Core.Bool.{Bool}
+use mathlib.Core.Path.{ap, _∙_}
+use Prim.Native.Nat.{ℕ}
+use borrow.Author.Needs.{needs}
 use Rattle.station.proofs.list.find.Statement.{statement}
 use Rattle.station.proofs.list.find.Tie as tie
 
-abbrev Inv-loop : tie.InvT-loop
-Inv-loop list n s i₀ i = Searching (listedAt list s) n i
+find-requires : tie.Need-find-requires
+find-requires c κs = rw (c .shape .ensures) (c .before .before .pre, lit≤ tt)
 
-abbrev μ-loop : tie.MeasureT-loop
-μ-loop list n s i₀ i = n - i
-
-loop-holds : tie.Need-loop-holds Inv-loop μ-loop
-loop-holds c = search-starts _ _
-
-holds-requires : tie.Need-holds-requires Inv-loop μ-loop
-holds-requires c κs = omega arith
-
-returns : tie.Need-returns Inv-loop μ-loop
-returns c = search-hit _ _ (c .before .before .before .loop .inv) (c .before .before .loop-test .taken) (sym (c .before .holds .ensures) ∙ c .if1 .taken)
-
-add-i : tie.Need-add-i Inv-loop μ-loop
-add-i c = omega arith
-
-loop-less : tie.Need-loop-less Inv-loop μ-loop
-loop-less c = omega arith
-
-loop-again : tie.Need-loop-again Inv-loop μ-loop
-loop-again c = search-on _ _ (c .before .before .before .loop .inv) (c .before .before .loop-test .taken) (sym (c .before .holds .ensures) ∙ c .if1 .left)
-
-returns-2 : tie.Need-returns-2 Inv-loop μ-loop
-returns-2 c = search-ends _ _ (c .before .loop .inv) (c .loop-test .left)
+returns : tie.Need-returns
+returns c =
+    let a = c .before .before .before .args in
+    let l = now (a .list) in
+    c .find .ensures
+    ∙ ap (λ (shape : Shape). first (rowHolds shape l (a .s)) (a .n)) (c .before .shape .ensures)
+    ∙ ap (λ (p : ℕ → Bool). first p (a .n)) (held-listed l (a .s))
 
 pub find-spec : {M : Type 1} → statement M
-find-spec =
-    tie.close
-    (tie.spec
-    Inv-loop
-    μ-loop
-    loop-holds
-    holds-requires
-    returns
-    add-i
-    loop-less
-    loop-again
-    returns-2)
+find-spec = tie.close (tie.spec (λ c κs. search needs) find-requires returns)

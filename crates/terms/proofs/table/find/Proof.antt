@@ -13,34 +13,19 @@ use Prim.Native.Nat.{ℕ}
 use borrow.Author.Needs.{needs}
 use Rattle.terms.proofs.table.find.Statement.{statement}
 use Rattle.terms.proofs.table.find.Tie as tie
-use Rattle.terms.proofs.table.find.Reads as reads
-use Rattle.terms.proofs.table.find.Lts as lts
-use Rattle.terms.proofs.table.find_key.Reads as find-key-reads
-use Rattle.terms.proofs.used.Reads as used-reads
 
--- src/table.rt:75:9
-used-requires : tie.Need-used-requires
-used-requires c κs = search needs
-
--- src/table.rt:77:38
 array-share-prefix-own : tie.Need-array-share-prefix-own
-array-share-prefix-own c = 
+array-share-prefix-own c =
     let full : length (c .before .before .before .args .s .bytes) ≡ 13 = search needs in
     omega (arith, c .before .used .ensures)
 
--- src/table.rt:77:38
 slice-aggregate-find-key : tie.Need-slice-aggregate-find-key
-slice-aggregate-find-key c = 
+slice-aggregate-find-key c =
     let full : length (c .before .before .before .before .args .s .bytes) ≡ 13 = search needs in
     simp length-take (omega (arith, c .before .before .used .ensures))
 
--- src/table.rt:77:5
-find-key-requires : tie.Need-find-key-requires
-find-key-requires c κs = search needs
-
--- src/table.rt:70:1
 returns : tie.Need-returns
-returns c = 
+returns c =
     let n = c .before .before .before in
     let a = n .before .before .args in
     let t = now (a .table) in
@@ -54,8 +39,8 @@ pub find-spec : {M : Type 1} → statement M
 find-spec =
     tie.close
     (tie.spec
-    used-requires
+    (λ c κs. search needs)
     array-share-prefix-own
     slice-aggregate-find-key
-    find-key-requires
+    (λ c κs. search needs)
     returns)

@@ -6,9 +6,6 @@ use native.Mathlib.Omega.{arith}
 use Prim.Native.Nat.{_-_}
 use Rattle.terms.proofs.table.find_key.Statement.{statement}
 use Rattle.terms.proofs.table.find_key.Tie as tie
-use Rattle.terms.proofs.table.find_key.Reads as reads
-use Rattle.terms.proofs.table.find_key.Lts as lts
-use Rattle.terms.proofs.table.holds.Reads as holds-reads
 
 abbrev Inv-loop : tie.InvT-loop
 Inv-loop table shape n len own i₀ i = Searching (rowHasKey shape table len own) n i
@@ -16,33 +13,20 @@ Inv-loop table shape n len own i₀ i = Searching (rowHasKey shape table len own
 abbrev μ-loop : tie.MeasureT-loop
 μ-loop table shape n len own i₀ i = n - i
 
--- src/table.rt:60:5
 loop-holds : tie.Need-loop-holds Inv-loop μ-loop
 loop-holds c = search-starts _ _
 
--- src/table.rt:61:12
 holds-requires : tie.Need-holds-requires Inv-loop μ-loop
-holds-requires c κs = 
+holds-requires c κs =
     let start = c .before .before .before .before in
     (omega (arith, row-end (start .args .shape .width) (c .loop-test .taken)), start .pre .1)
 
--- src/table.rt:62:13
 returns : tie.Need-returns Inv-loop μ-loop
 returns c = search-hit _ _ (c .before .before .before .loop .inv) (c .before .before .loop-test .taken) (sym (c .before .holds .ensures) ∙ c .if1 .taken)
 
--- src/table.rt:64:9
-add-i : tie.Need-add-i Inv-loop μ-loop
-add-i c = omega arith
-
--- src/table.rt:60:5
-loop-less : tie.Need-loop-less Inv-loop μ-loop
-loop-less c = omega arith
-
--- src/table.rt:60:5
 loop-again : tie.Need-loop-again Inv-loop μ-loop
 loop-again c = search-on _ _ (c .before .before .before .loop .inv) (c .before .before .loop-test .taken) (sym (c .before .holds .ensures) ∙ c .if1 .left)
 
--- src/table.rt:54:1
 returns-2 : tie.Need-returns-2 Inv-loop μ-loop
 returns-2 c = search-ends _ _ (c .before .loop .inv) (c .loop-test .left)
 
@@ -55,7 +39,7 @@ find-key-spec =
     loop-holds
     holds-requires
     returns
-    add-i
-    loop-less
+    (λ c. omega arith)
+    (λ c. omega arith)
     loop-again
     returns-2)

@@ -15,49 +15,17 @@ use Prim.Native.Nat.{ℕ, _+_, _*_}
 use borrow.Author.Needs.{needs}
 use Rattle.terms.proofs.table.row_alone.Statement.{statement}
 use Rattle.terms.proofs.table.row_alone.Tie as tie
-use Rattle.terms.proofs.table.row_alone.Reads as reads
-use Rattle.terms.proofs.table.row_alone.Lts as lts
-use Rattle.terms.proofs.key_at.Reads as key-at-reads
-use Rattle.terms.proofs.table.find_key.Reads as find-key-reads
-use Rattle.terms.proofs.table.is_free.Reads as is-free-reads
 
--- src/table.rt:88:9
 returns : tie.Need-returns
 returns c = sym (c .before .before .pre .1 .1 (not-true _ (c .if1 .taken)))
 
--- src/table.rt:90:9
-is-free-requires : tie.Need-is-free-requires
-is-free-requires c κs = search needs
-
--- src/table.rt:91:9
 returns-2 : tie.Need-returns-2
 unfolding rowAlone
 returns-2 c = rw (sym (c .before .is-free .ensures) ∙ c .if2 .taken)
 
--- src/table.rt:93:14
-mul-at : tie.Need-mul-at
-mul-at c = search needs
-
--- src/table.rt:93:14
-add-at : tie.Need-add-at
-add-at c = search needs
-
--- src/table.rt:94:36
-shared-slice-read-find-key : tie.Need-shared-slice-read-find-key
-shared-slice-read-find-key c = search needs
-
--- src/table.rt:94:47
-key-at-requires : tie.Need-key-at-requires
-key-at-requires c κs = search needs
-
--- src/table.rt:94:10
-find-key-requires : tie.Need-find-key-requires
-find-key-requires c κs = search needs
-
--- src/table.rt:81:1
 returns-3 : tie.Need-returns-3
 unfolding rowAlone rowString stringAt
-returns-3 c = 
+returns-3 c =
     let test = c .before .before .before .before .before in
     let a = test .before .before .before .before .args in
     let t = now (a .table) in
@@ -73,11 +41,11 @@ row-alone-spec =
     tie.close
     (tie.spec
     returns
-    is-free-requires
+    (λ c κs. search needs)
     returns-2
-    mul-at
-    add-at
-    shared-slice-read-find-key
-    key-at-requires
-    find-key-requires
+    (λ c. search needs)
+    (λ c. search needs)
+    (λ c. search needs)
+    (λ c κs. search needs)
+    (λ c κs. search needs)
     returns-3)

@@ -12,11 +12,6 @@ use native.Mathlib.Omega.{arith}
 use Prim.Native.Nat.{_-_}
 use Rattle.terms.proofs.table.rows_alone.Statement.{statement}
 use Rattle.terms.proofs.table.rows_alone.Tie as tie
-use Rattle.terms.proofs.table.rows_alone.Reads as reads
-use Rattle.terms.proofs.table.rows_alone.Lts as lts
-use Rattle.rows.proofs.marks.mark.Reads as mark-reads
-use Rattle.terms.proofs.table.hash_of.Reads as hash-of-reads
-use Rattle.terms.proofs.table.row_alone.Reads as row-alone-reads
 
 abbrev Inv-loop : tie.InvT-loop
 Inv-loop table shape n map₀ i₀ map i = Passing (rowAlone shape table) n i × Marked 32 (λ j. stringHash (rowString shape table j)) map i
@@ -24,27 +19,22 @@ Inv-loop table shape n map₀ i₀ map i = Passing (rowAlone shape table) n i ×
 abbrev μ-loop : tie.MeasureT-loop
 μ-loop table shape n map₀ i₀ map i = n - i
 
--- src/table.rt:116:5
 loop-holds : tie.Need-loop-holds Inv-loop μ-loop
 loop-holds c = (pass-starts _ _, mark-starts _ _ _ refl)
 
--- src/table.rt:117:38
 slice-aggregate-mark : tie.Need-slice-aggregate-mark Inv-loop μ-loop
 slice-aggregate-mark c = sym (c .before .before .loop .inv .1 .0)
 
--- src/table.rt:117:48
 hash-of-requires : tie.Need-hash-of-requires Inv-loop μ-loop
-hash-of-requires c κs = 
+hash-of-requires c κs =
     let start = c .before .before .before .before in
     (omega (arith, row-end (start .args .shape .width) (c .before .loop-test .taken)), start .pre .1 .0)
 
--- src/table.rt:117:13
 mark-requires : tie.Need-mark-requires Inv-loop μ-loop
 mark-requires c κs = omega (arith, c .hash-of .ensures .1, c .before .before .before .loop .inv .1 .0)
 
--- src/table.rt:118:13
 row-alone-requires : tie.Need-row-alone-requires Inv-loop μ-loop
-row-alone-requires c κs = 
+row-alone-requires c κs =
     let marks = c .before in
     let test = marks .before .before .before in
     let turn = test .before in
@@ -53,21 +43,11 @@ row-alone-requires c κs =
     let map = turn .loop .map in
     (omega (arith, row-end (shape .width) (test .loop-test .taken)), (start .pre .1 .0, λ new. unseen-alone shape (now (start .args .table)) (start .args .n) (start .pre .1 .1) 32 map (turn .loop .i) (test .loop-test .taken) (turn .loop .inv .1) (ap (marked map) (sym (marks .before .hash-of .ensures .0)) ∙ sym (marks .mark .ensures .0) ∙ new)))
 
--- src/table.rt:119:13
 returns : tie.Need-returns Inv-loop μ-loop
 returns c = pass-breaks _ _ (c .before .before .before .before .before .before .loop-test .taken) (sym (c .before .row-alone .ensures) ∙ not-true _ (c .if1 .taken))
 
--- src/table.rt:121:9
-add-i : tie.Need-add-i Inv-loop μ-loop
-add-i c = omega arith
-
--- src/table.rt:116:5
-loop-less : tie.Need-loop-less Inv-loop μ-loop
-loop-less c = omega arith
-
--- src/table.rt:116:5
 loop-again : tie.Need-loop-again Inv-loop μ-loop
-loop-again c = 
+loop-again c =
     let marks = c .before .before .before in
     let hashed = marks .before in
     let test = hashed .before .before in
@@ -76,7 +56,6 @@ loop-again c =
       mark-adds _ _ _ (turn .loop .inv .1) (hashed .hash-of .ensures .0) (omega (arith, hashed .hash-of .ensures .1)) (marks .mark .ensures .1),
     )
 
--- src/table.rt:108:1
 returns-2 : tie.Need-returns-2 Inv-loop μ-loop
 returns-2 c = pass-ends _ _ (c .before .loop .inv .0) (c .loop-test .left)
 
@@ -92,7 +71,7 @@ rows-alone-spec =
     mark-requires
     row-alone-requires
     returns
-    add-i
-    loop-less
+    (λ c. omega arith)
+    (λ c. omega arith)
     loop-again
     returns-2)
