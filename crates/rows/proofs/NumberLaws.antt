@@ -3,14 +3,15 @@ use Prim.Native.Nat.{ℕ, zero, suc, _+_, _-_, _*_, _/_, _%_, _^_, _≤_, _<_}
 use native.Mathlib.Omega.{arith}
 use native.Mathlib.Nat.{pow-suc, pow-succ', mul-assoc, add-zero}
 use mathlib.Core.Path.{_≡_, refl, sym, ap, ap₂, _∙_}
-use mathlib.Core.Bool.{true}
+use mathlib.Core.Bool.{true, false}
 use mathlib.Core.List.{List, [], _∷_, _++_}
 use lib.Dec.{ltb, eqb, lit<}
 use lib.ListN.{length, drop, getD, length-drop, List·getD-eq-default}
 use lib.Seq.{take-add, drop-drop, length-take-le, ext-getD}
 use borrow.Author.Tests.{ltb-true, ltb-false, eqb-true, eq-eqb}
-use Rattle.rows.proofs.BoolLaws.{by-test, iff}
-use Rattle.rows.specs.Words.{build, same}
+use Rattle.rows.proofs.BoolLaws.{by-test, contra, iff}
+use Rattle.rows.proofs.IndexLaws.{all-at}
+use Rattle.rows.specs.Words.{all, build, same, zeroAt}
 use Rattle.rows.specs.Rows.{part}
 use Rattle.rows.specs.Numbers.{lowFirst, lowBytes}
 use Rattle.rows.proofs.BuildLaws.{build-list, same-is, same-refl}
@@ -58,6 +59,34 @@ pub same-low : (a b : List ℕ) → Bytes a → Bytes b → length a ≡ length 
 same-low a b small-a small-b long = iff (eqb (lowFirst a) (lowFirst b)) (same a b)
     (λ y. rw (sym (bytes-back a small-a) ∙ ap₂ lowBytes long (eqb-true (lowFirst a) (lowFirst b) y) ∙ bytes-back b small-b) (same-refl b))
     (λ y. eq-eqb (lowFirst a) (lowFirst b) (ap lowFirst (same-is a b y)))
+
+-- bytes hold the number 0 just where they are zeros
+low-zero : (l : List ℕ) → lowFirst l ≡ 0 → (k : ℕ) → getD l k 0 ≡ 0
+unfolding lowFirst
+low-zero [] e k = refl
+low-zero (b ∷ l) e zero = omega arith
+low-zero (b ∷ l) e (suc k) = low-zero l (omega arith) k
+
+zero-low : (l : List ℕ) → ((k : ℕ) → k < length l → getD l k 0 ≡ 0) → lowFirst l ≡ 0
+unfolding lowFirst
+zero-low [] z = refl
+zero-low (b ∷ l) z =
+    let rest : lowFirst l ≡ 0 = zero-low l (λ k h. z (suc k) (omega arith)) in
+    omega (arith, z 0 (omega arith))
+
+-- eight bytes from `at` on, read as a number
+module _ (l : List ℕ) (at : ℕ) (fits : at + 8 ≤ length l) where
+  pub eight-zero : lowFirst (part l at 8) ≡ 0 → (k : ℕ) → at ≤ k → k < at + 8 → zeroAt l k ≡ true
+  unfolding zeroAt
+  eight-zero e k g h =
+      let here : at + (k - at) ≡ k = omega arith in
+      eq-eqb _ _ (ap (λ (j : ℕ). getD l j 0) (sym here) ∙ sym (getD-part l at 8 (k - at) (omega arith)) ∙ low-zero (part l at 8) e (k - at))
+
+  pub eight-some : (lowFirst (part l at 8) ≡ 0 → ⊥) → all (zeroAt l) (at + 8) ≡ false
+  unfolding zeroAt
+  eight-some ne = contra _ false
+      (λ z. absurd (ne (zero-low (part l at 8) (λ k h. getD-part l at 8 k (omega (arith, length-part l at 8 fits)) ∙ eqb-true _ _ (all-at (zeroAt l) (at + 8) (at + k) z (omega (arith, length-part l at 8 fits)))))))
+      refl
 
 -- two lists of 8 to 16 bytes whose first eight bytes hold one number, and whose last eight do
 module _ (a b : List ℕ) (small-a : Bytes a) (small-b : Bytes b) (long : length a ≡ length b) (least : 8 ≤ length a) where

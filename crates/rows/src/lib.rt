@@ -5,7 +5,7 @@ pub mod marks;
 ghost use mathlib.Core.Path.{_≡_};
 ghost use Prim.Native.Nat.{_+_, _*_, _≤_, _<_};
 ghost use lib.ListN.{length};
-ghost use Rattle.rows.specs.Words.{same, zeros};
+ghost use Rattle.rows.specs.Words.{all, same, zeroAt, zeros};
 ghost use Rattle.rows.specs.Rows.{part as partOf, put as putIn, over, copies};
 ghost use Rattle.rows.specs.Numbers.{lowFirst};
 ghost use Rattle.rows.specs.Outcomes.{Gives};
@@ -37,20 +37,6 @@ pub fn fill(s: &mut [u8], n: usize, r: &[u8])
         put(s, r.len() * i, r);
         i += 1;
     }
-}
-
-// Every byte is zero.
-pub fn is_zero(s: &[u8]) -> bool
-    ensures { λ r. ⌜ Gives (zeros (now (s .entry))) r ⌝ }
-{
-    let mut k: usize = 0;
-    while k < s.len() {
-        if s[k] != 0 {
-            return false;
-        }
-        k += 1;
-    }
-    true
 }
 
 fn wide(b: u8) -> u32
@@ -87,6 +73,49 @@ pub fn eight_at(s: &[u8], at: usize) -> u64
     let low = four_at(s, at) as u64;
     let high = four_at(s, at + 4) as u64;
     low + 4294967296 * high
+}
+
+// Every byte is zero, one after the other.
+fn bytes_zero(s: &[u8]) -> bool
+    ensures { λ r. ⌜ r ≡ zeros (now (s .entry)) ⌝ }
+{
+    let mut k: usize = 0;
+    while k < s.len() {
+        if s[k] != 0 {
+            return false;
+        }
+        k += 1;
+    }
+    true
+}
+
+// The first n words of eight bytes are zero.
+fn words_zero(s: &[u8], n: usize) -> bool
+    requires { ⌜ 8 * n ≤ length (now s) ⌝ }
+    ensures { λ r. ⌜ r ≡ all (zeroAt (now (s .entry))) (8 * n) ⌝ }
+{
+    let mut k: usize = 0;
+    while k < n {
+        if eight_at(s, 8 * k) != 0 {
+            return false;
+        }
+        k += 1;
+    }
+    true
+}
+
+// Every byte is zero. Eight or more are read as numbers of eight, the last of which may begin in the one before it.
+pub fn is_zero(s: &[u8]) -> bool
+    ensures { λ r. ⌜ Gives (zeros (now (s .entry))) r ⌝ }
+{
+    let n = s.len();
+    if n < 8 {
+        return bytes_zero(s);
+    }
+    if !words_zero(s, n / 8) {
+        return false;
+    }
+    eight_at(s, n - 8) == 0
 }
 
 // Two slices of one length are the same, byte by byte.
