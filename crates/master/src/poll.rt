@@ -133,8 +133,7 @@ pub fn write_back(number: u32, polled: PolledRow, records: &mut [u8]) -> Turned
         Turned::Refused(k) => Turned::Refused(k),
         Turned::Turn { due, out } => {
             let at = number as usize;
-            let row = polled.row;
-            who::put_station(records, at, row[at]);
+            who::put_station(records, at, polled.row[at]);
             Turned::Turn { due, out }
         }
     }
