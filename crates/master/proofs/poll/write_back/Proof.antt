@@ -12,7 +12,7 @@ element-copy-out-put-station c = c .before .before .before .before .before .pre 
 
 put-station-requires : tie.Need-put-station-requires
 unfolding isTurn
-put-station-requires c κs = 
+put-station-requires c κs =
     let start = c .before .before .before .before .before .before in
     omega (arith, start .pre .0, start .pre .1 (ap isTurn (c .before .before .before .answer2 .given .1)))
 
@@ -22,7 +22,7 @@ returns c = record { answer = sym (c .before .answer .given .1); left = rw (c .b
 
 returns-2 : tie.Need-returns-2
 unfolding writtenBack isTurn stationIn
-returns-2 c = 
+returns-2 c =
     let told = c .before .before .before .before .before .before .answer2 .given .1 in
     record { answer = sym told; left = rw told (c .before .before .put-station .ensures) }
 
