@@ -20,9 +20,9 @@ use Rattle.master.proofs.Keeps.{login-in, logout-out}
 use Rattle.master.proofs.PollKeeps.{TurnDeed}
 
 module _ (t w : List ℕ) (good : goodTables t w ≡ true) where
-  pub table : tableLaws.Good locks w t
+  pub table : tableLaws.Good locks (loggedIn w) t
   unfolding goodLocks
-  table = tableLaws.good-is locks w t (locks-good t w good)
+  table = tableLaws.good-is locks (loggedIn w) t (locks-good t w good)
 
   -- who is out holds nothing
   pub out-holds : (k : ℕ) → loggedIn w k ≡ false → (y : LockString) → has t k y ≡ false

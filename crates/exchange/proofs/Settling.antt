@@ -57,7 +57,7 @@ module _ (x : LockString) (long : length (x .bytes) ≡ 13) (y : LockString) whe
   unfolding pending codeIn awaited
   unlock-pending = ap (λ (z : LockString). sameString z y) (asked-back UNLOCK x long)
 
-module _ {n : ℕ} {w t : List ℕ} (g : tableLaws.Good n w t) (k : ℕ) (x : LockString) (long : length (x .bytes) ≡ 13) where
+module _ {n : ℕ} {w : ℕ → Bool} {t : List ℕ} (g : tableLaws.Good n w t) (k : ℕ) (x : LockString) (long : length (x .bytes) ≡ 13) where
   -- a string that is not the sender's is none's that is the same
   lacks : has t k x ≡ false → (y : LockString) → sameString x y ≡ true → has t k y ≡ false
   lacks e y s = sym (has-same t k x y s) ∙ e
@@ -142,7 +142,7 @@ exchanged : {k : ℕ} {t w v : List ℕ} {b : ℕ} {t₁ : List ℕ} {a : Told} 
 exchanged (OwnFrames.Serving.refused j) s = unserved j
 exchanged {b = b} {t₁ = t₁} served s = settles b t₁ s
 
-module _ {n : ℕ} {w t : List ℕ} (g : tableLaws.Good n w t) (k : ℕ) (nf : k ≡ 0xFF → ⊥) (s : List ℕ) where
+module _ {n : ℕ} {w t : List ℕ} (g : tableLaws.Good n (loggedIn w) t) (k : ℕ) (nf : k ≡ 0xFF → ⊥) (s : List ℕ) where
   abbrev Does : List ℕ → List ℕ → Type 0
   Does v f = Exchange k t w v (frameTold k f s t w) (frameLocks k f s t w) (frameRecords k f s t w)
 

@@ -16,11 +16,11 @@ use Rattle.terms.specs.Strings.{sameString, normal}
 use Rattle.terms.specs.Tables.{rowFree, rowString, rowHolds, rowAlone}
 use Rattle.locks.specs.Row.{owner, stringOf, lockRows, isFree, holds}
 use Rattle.locks.specs.Table.{holdsAt, freeAt}
-use Rattle.locks.specs.Good.{aloneAt, goodRow}
+use Rattle.locks.specs.Good.{aloneAt, soundRow}
 use Rattle.locks.proofs.LockRowLaws.{row-string, good-used}
 
 -- in a good used row the string stands in its normal form
-pub good-normal : (w r : List ℕ) → length r ≡ 16 → goodRow w r ≡ true → isFree r ≡ false → normal (stringOf r) ≡ stringOf r
+pub good-normal : (w : ℕ → Bool) (r : List ℕ) → length r ≡ 16 → soundRow w r ≡ true → isFree r ≡ false → normal (stringOf r) ≡ stringOf r
 unfolding stringOf
 good-normal w r long good used =
     let g = good-used w r good used in

@@ -15,7 +15,7 @@ use Rattle.terms.specs.declared.LockString.{LockString}
 use Rattle.terms.proofs.StringLaws.{same-string-refl, same-string-sym, same-string-trans}
 use Rattle.locks.specs.Row.{stringOf, isFree, holds}
 use Rattle.locks.specs.Table.{rowCount, holdsAt, freeAt}
-use Rattle.locks.specs.Good.{soundAt, soundRows, goodRow, goodAt, aloneAt, goodRows}
+use Rattle.locks.specs.Good.{soundRow, soundAt, soundRows, aloneAt}
 use Rattle.locks.proofs.LockRowLaws.{holds-is, is-holds}
 
 -- a table of n rows has n rows
@@ -23,9 +23,9 @@ pub count-is : (n : ℕ) (t : List ℕ) → length t ≡ 16 * n → rowCount t �
 count-is n t sized = omega arith
 
 -- each row keeps the rules by itself, and of the rows that hold a string there is one at most
-pub record Good (n : ℕ) (w t : List ℕ) : Type 0 where
+pub record Good (n : ℕ) (w : ℕ → Bool) (t : List ℕ) : Type 0 where
   pub sized : length t ≡ 16 * n
-  pub each : (i : ℕ) → i < n → goodRow w (row 16 t i) ≡ true
+  pub each : (i : ℕ) → i < n → soundRow w (row 16 t i) ≡ true
   pub one-row : (x : LockString) (i j : ℕ) → i < n → j < n → holds x (row 16 t i) ≡ true → holds x (row 16 t j) ≡ true → i ≡ j
 
 module _ (n : ℕ) (t : List ℕ) where
@@ -55,22 +55,22 @@ module _ (n : ℕ) (t : List ℕ) where
       let own : holds x (row 16 t i) ≡ true = is-holds x (row 16 t i) (record { used = u; string = same-string-refl x }) in
       rw (u, none-from (holdsAt t x) i (λ j b. sym (refuted _ (λ h. let e = one x i j l (omega arith) own h in omega arith))))))
 
-module _ (n : ℕ) (w t : List ℕ) where
-  pub good-is : goodRows n w t ≡ true → Good n w t
+module _ (n : ℕ) (w : ℕ → Bool) (t : List ℕ) where
+  pub good-is : soundRows n w t ≡ true → Good n w t
   unfolding soundRows soundAt
   good-is h =
       let z = eqb (length t) (16 * n) in
-      let e = all (goodAt w t) n in
+      let e = all (soundAt w t) n in
       let a = all (aloneAt t) n in
       let h₁ = and-right z (e && a) h in record {
         sized = eqb-true _ _ (and-left z (e && a) h);
-        each = λ i l. all-at (goodAt w t) n i (and-left e a h₁) l;
+        each = λ i l. all-at (soundAt w t) n i (and-left e a h₁) l;
         one-row = alone-one n t (and-right e a h₁);
       }
 
-  pub is-good : Good n w t → goodRows n w t ≡ true
+  pub is-good : Good n w t → soundRows n w t ≡ true
   unfolding soundRows soundAt
-  is-good g = rw (eq-eqb _ _ (g .sized), all-from (goodAt w t) n (g .each), one-alone n t (g .one-row))
+  is-good g = rw (eq-eqb _ _ (g .sized), all-from (soundAt w t) n (g .each), one-alone n t (g .one-row))
 
 -- the rules ask nothing of the records but who is logged in
 pub sound-same : (n : ℕ) (t : List ℕ) (f g : ℕ → Bool) → ((a : ℕ) → f a ≡ g a) → soundRows n f t ≡ soundRows n g t

@@ -14,7 +14,6 @@ use Rattle.rows.proofs.IndexLaws.{any-at, first-found, any-same, any-and, any-s
 use Rattle.terms.specs.declared.LockString.{LockString}
 use Rattle.terms.specs.Strings.{legal, sameString}
 use Rattle.terms.proofs.StringLaws.{legal-same, same-string-refl, same-string-sym, same-string-trans}
-use Rattle.who.specs.Logins.{loggedIn}
 use Rattle.locks.specs.Row.{owner, stringOf, isFree, freeRow, holds}
 use Rattle.locks.specs.Table.{rowCount, holdsAt, freeAt, ownerAt, heldAt, isHeld, isOwn, lockStatus, lockTable, unlocks, unlockStatus, unlockTable, clearedTable}
 use Rattle.locks.specs.Holding.{hasAt, has}
@@ -67,7 +66,7 @@ unfolding has hasAt holdsAt
 has-same t who a b h = any-same (hasAt t who b) (hasAt t who a) (rowCount t) (λ i l. ap (λ (c : Bool). c && eqb (ownerAt t i) who) (holds-same a b (row 16 t i) h))
 
 -- in a good table
-module _ {n : ℕ} {w t : List ℕ} (g : Good n w t) where
+module _ {n : ℕ} {w : ℕ → Bool} {t : List ℕ} (g : Good n w t) where
   within : {i : ℕ} → i < rowCount t → i < n
   within l = omega (arith, g .sized)
 
@@ -85,8 +84,8 @@ module _ {n : ℕ} {w t : List ℕ} (g : Good n w t) where
     used-row : GoodUsed w (row 16 t (rowBy t a x))
     used-row = let r = has-row t a x h in good-used w _ (g .each (rowBy t a x) (within (r .0))) (holds-is x _ (r .1 .held) .used)
 
-    pub held-in : loggedIn w a ≡ true
-    held-in = subst (λ (b : ℕ). loggedIn w b ≡ true) (has-row t a x h .1 .owned) (used-row .inside)
+    pub held-in : w a ≡ true
+    held-in = subst (λ (b : ℕ). w b ≡ true) (has-row t a x h .1 .owned) (used-row .inside)
 
     pub held-number : a ≡ 0xFF → ⊥
     unfolding isFree
@@ -150,7 +149,7 @@ pub data UnlockCase (t : List ℕ) (who : ℕ) (s : LockString) : ℕ → List �
   unlocked : legal s ≡ true → has t who s ≡ true → UnlockCase t who s 0x00 (unlockTable t who s)
   refused : (legal s && has t who s) ≡ false → UnlockCase t who s 0x02 t
 
-module _ {n : ℕ} {w t : List ℕ} (g : Good n w t) (who : ℕ) (s : LockString) where
+module _ {n : ℕ} {w : ℕ → Bool} {t : List ℕ} (g : Good n w t) (who : ℕ) (s : LockString) where
   pub lock-case : LockCase t who s (lockStatus t who s) (lockTable t who s)
   lock-case = by-test (legal s)
       (λ l. by-test (isHeld t s)

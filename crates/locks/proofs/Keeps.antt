@@ -13,10 +13,9 @@ use Rattle.rows.proofs.IndexLaws.{none-from}
 use Rattle.rows.proofs.RowLaws.{length-copies, row-copies}
 use Rattle.terms.specs.declared.LockString.{LockString}
 use Rattle.terms.proofs.StringLaws.{same-string-refl}
-use Rattle.who.specs.Logins.{loggedIn}
 use Rattle.locks.specs.Row.{owner, stringOf, freeRow, holds}
 use Rattle.locks.specs.Table.{holdsAt, isHeld, lockStatus, lockTable, unlockTable, clearedTable}
-use Rattle.locks.specs.Good.{goodRow, locks, goodRows, freshLocks}
+use Rattle.locks.specs.Good.{soundRow, locks, soundRows, freshLocks}
 use Rattle.locks.specs.Holding.{hasAt, has}
 use Rattle.locks.proofs.LockRowLaws.{is-holds, free-holds, free-free, free-good, good-rowOf, good-beside, holds-rowOf}
 use Rattle.locks.proofs.TableLaws.{Fills, Frees, row-held, lock-fills, unlock-frees, clear-frees}
@@ -24,7 +23,7 @@ use Rattle.locks.proofs.GoodLaws.{Good, good-is, is-good, count-is}
 use Rattle.locks.proofs.HoldingLaws.{row-has, held-same, held-in, has-cleared, LockCase, illegal, own, other, full, granted, lock-case}
 
 -- a free row is filled with a good row, whose string nobody holds
-module _ {n k : ℕ} {w r t t′ : List ℕ} (f : Fills k r t t′) (good : goodRow w r ≡ true) (new : (x : LockString) → holds x r ≡ true → isHeld t x ≡ false) (g : Good n w t) where
+module _ {n k : ℕ} {w : ℕ → Bool} {r t t′ : List ℕ} (f : Fills k r t t′) (good : soundRow w r ≡ true) (new : (x : LockString) → holds x r ≡ true → isHeld t x ≡ false) (g : Good n w t) where
   clash : (x : LockString) (i j : ℕ) → i ≡ k → (j ≡ k → ⊥) → j < n → holds x (row 16 t′ i) ≡ true → holds x (row 16 t′ j) ≡ true → ⊥
   clash x i j e ne l p q =
       both (row-held t x j (omega (arith, g .sized)) (rw (f .there j ne) at q)) (new x (rw (e, f .here) at p))
@@ -41,7 +40,7 @@ module _ {n k : ℕ} {w r t t′ : List ℕ} (f : Fills k r t t′) (good : good
   }
 
 -- rows are freed
-module _ {n : ℕ} {f : ℕ → Bool} {w t t′ : List ℕ} (h : Frees f t t′) (g : Good n w t) where
+module _ {n : ℕ} {f : ℕ → Bool} {w : ℕ → Bool} {t t′ : List ℕ} (h : Frees f t t′) (g : Good n w t) where
   was : (x : LockString) (i : ℕ) → i < n → holds x (row 16 t′ i) ≡ true → holds x (row 16 t i) ≡ true
   was x i l p =
       let e = h .rows i (omega (arith, g .sized)) in
@@ -56,11 +55,11 @@ module _ {n : ℕ} {f : ℕ → Bool} {w t t′ : List ℕ} (h : Frees f t t′)
     one-row = λ x i j l m p q. g .one-row x i j l m (was x i l p) (was x j m q);
   }
 
-module _ (n : ℕ) (w t : List ℕ) (h : goodRows n w t ≡ true) where
-  pub lock-keeps : (who : ℕ) (s : LockString) → loggedIn w who ≡ true → (who ≡ 0xFF → ⊥) → length (s .bytes) ≡ 13 → goodRows n w (lockTable t who s) ≡ true
+module _ (n : ℕ) (w : ℕ → Bool) (t : List ℕ) (h : soundRows n w t ≡ true) where
+  pub lock-keeps : (who : ℕ) (s : LockString) → w who ≡ true → (who ≡ 0xFF → ⊥) → length (s .bytes) ≡ 13 → soundRows n w (lockTable t who s) ≡ true
   lock-keeps who s inside ne long = go (lockStatus t who s) (lockTable t who s) (lock-case (good-is n w t h) who s)
     where
-      go : (r : ℕ) (t′ : List ℕ) → LockCase t who s r t′ → goodRows n w t′ ≡ true
+      go : (r : ℕ) (t′ : List ℕ) → LockCase t who s r t′ → soundRows n w t′ ≡ true
       go r t′ (illegal l) = h
       go r t′ (own l o) = h
       go r t′ (other l o b) = h
@@ -70,14 +69,14 @@ module _ (n : ℕ) (w t : List ℕ) (h : goodRows n w t ≡ true) where
           (λ x p. sym (held-same t s x (sym (holds-rowOf who s long ne x) ∙ p)) ∙ b)
           (good-is n w t h))
 
-  pub unlock-keeps : (who : ℕ) (s : LockString) → goodRows n w (unlockTable t who s) ≡ true
+  pub unlock-keeps : (who : ℕ) (s : LockString) → soundRows n w (unlockTable t who s) ≡ true
   unlock-keeps who s = is-good n w _ (frees-keep (unlock-frees t who s) (good-is n w t h))
 
-  pub clear-keeps : (who : ℕ) → goodRows n w (clearedTable t who) ≡ true
+  pub clear-keeps : (who : ℕ) → soundRows n w (clearedTable t who) ≡ true
   clear-keeps who = is-good n w _ (frees-keep (clear-frees t who) (good-is n w t h))
 
   -- beside other records, in which everybody who holds a string is logged in
-  pub records-keep : (w′ : List ℕ) → ((a : ℕ) (x : LockString) → has t a x ≡ true → loggedIn w′ a ≡ true) → goodRows n w′ t ≡ true
+  pub records-keep : (w′ : ℕ → Bool) → ((a : ℕ) (x : LockString) → has t a x ≡ true → w′ a ≡ true) → soundRows n w′ t ≡ true
   records-keep w′ inside = let g = good-is n w t h in is-good n w′ t (record {
     sized = g .sized;
     each = λ i l. good-beside w (row 16 t i) w′ (g .each i l) (λ u.
@@ -90,11 +89,11 @@ module _ (n : ℕ) (w t : List ℕ) (h : goodRows n w t ≡ true) where
   })
 
   -- after a login everybody who was logged in still is
-  pub login-keeps : (w′ : List ℕ) → ((a : ℕ) → loggedIn w a ≡ true → loggedIn w′ a ≡ true) → goodRows n w′ t ≡ true
+  pub login-keeps : (w′ : ℕ → Bool) → ((a : ℕ) → w a ≡ true → w′ a ≡ true) → soundRows n w′ t ≡ true
   login-keeps w′ stays = records-keep w′ (λ a x p. stays a (held-in (good-is n w t h) a x p))
 
 -- after a logout everybody else still is, and the sender's rows are free
-pub logout-keeps : (n : ℕ) (w t : List ℕ) → goodRows n w t ≡ true → (who : ℕ) (w′ : List ℕ) → ((a : ℕ) → (a ≡ who → ⊥) → loggedIn w a ≡ true → loggedIn w′ a ≡ true) → goodRows n w′ (clearedTable t who) ≡ true
+pub logout-keeps : (n : ℕ) (w : ℕ → Bool) (t : List ℕ) → soundRows n w t ≡ true → (who : ℕ) (w′ : ℕ → Bool) → ((a : ℕ) → (a ≡ who → ⊥) → w a ≡ true → w′ a ≡ true) → soundRows n w′ (clearedTable t who) ≡ true
 logout-keeps n w t h who w′ stay = records-keep n w (clearedTable t who) (clear-keeps n w t h who) w′ (λ a x p.
     let b : (has t a x && not (eqb a who)) ≡ true = sym (has-cleared t who a x) ∙ p in
     stay a (eqb-false a who (not-true _ (and-right (has t a x) (not (eqb a who)) b))) (held-in (good-is n w t h) a x (and-left (has t a x) (not (eqb a who)) b)))
@@ -104,7 +103,7 @@ module _ (n : ℕ) where
   free-row : (i : ℕ) → i < n → row 16 (copies n freeRow) i ≡ freeRow
   free-row i l = row-copies 16 freeRow refl n i l
 
-  pub free-rows-good : (w : List ℕ) → goodRows n w (copies n freeRow) ≡ true
+  pub free-rows-good : (w : ℕ → Bool) → soundRows n w (copies n freeRow) ≡ true
   free-rows-good w = is-good n w _ (record {
     sized = length-copies n freeRow;
     each = λ i l. rw (free-row i l) (free-good w);
@@ -117,7 +116,7 @@ module _ (n : ℕ) where
       (none-from (hasAt (copies n freeRow) a x) n (λ i l. rw (free-row i l, free-holds x freeRow free-free)))
 
 -- the fresh table is good beside any records, and nobody has anything
-pub fresh-good : (w : List ℕ) → goodRows locks w freshLocks ≡ true
+pub fresh-good : (w : ℕ → Bool) → soundRows locks w freshLocks ≡ true
 unfolding freshLocks
 fresh-good w = free-rows-good locks w
 

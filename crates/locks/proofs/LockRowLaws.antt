@@ -16,9 +16,8 @@ use Rattle.rows.proofs.RowLaws.{length-part}
 use Rattle.terms.specs.declared.LockString.{LockString}
 use Rattle.terms.specs.Strings.{stringAt, stringBytes, legal, key, sameString, normal}
 use Rattle.terms.proofs.StringLaws.{string-inside, legal-len, legal-same, normal-is-same, length-key, length-normal, same-string-normal, same-string-right}
-use Rattle.who.specs.Logins.{loggedIn}
 use Rattle.locks.specs.Row.{owner, stringOf, freeRow, isFree, rowOf, holds, freed}
-use Rattle.locks.specs.Good.{soundRow, goodRow}
+use Rattle.locks.specs.Good.{soundRow}
 
 -- a row made of its owner, its length and its string over sixteen zeros
 pub row-laid : (who : ℕ) (s : LockString) → length (s .bytes) ≡ 13 → over (who ∷ stringBytes s) (replicate 16 0) ≡ who ∷ (stringBytes s ++ (0 ∷ []))
@@ -99,36 +98,36 @@ holds-freed who x r = by-test (eqb (owner r) who)
     (λ m. rw m (sym (and-true (holds x r))))
 
 -- a good used row
-pub record GoodUsed (w r : List ℕ) : Type 0 where
-  pub inside : loggedIn w (owner r) ≡ true
+pub record GoodUsed (w : ℕ → Bool) (r : List ℕ) : Type 0 where
+  pub inside : w (owner r) ≡ true
   pub lawful : legal (stringOf r) ≡ true
   pub rest : zeros (part r (2 + stringOf r .len) (14 - stringOf r .len)) ≡ true
 
-module _ (w r : List ℕ) where
-  pub good-used : goodRow w r ≡ true → isFree r ≡ false → GoodUsed w r
+module _ (w : ℕ → Bool) (r : List ℕ) where
+  pub good-used : soundRow w r ≡ true → isFree r ≡ false → GoodUsed w r
   unfolding soundRow
   good-used h u =
       let l = legal (stringOf r) in
       let z = zeros (part r (2 + stringOf r .len) (14 - stringOf r .len)) in
-      let h₁ = and-right (loggedIn w (owner r)) (l && z) (rw u at h) in record {
-        inside = and-left (loggedIn w (owner r)) (l && z) (rw u at h);
+      let h₁ = and-right (w (owner r)) (l && z) (rw u at h) in record {
+        inside = and-left (w (owner r)) (l && z) (rw u at h);
         lawful = and-left l z h₁;
         rest = and-right l z h₁;
       }
 
-  pub used-good : isFree r ≡ false → GoodUsed w r → goodRow w r ≡ true
+  pub used-good : isFree r ≡ false → GoodUsed w r → soundRow w r ≡ true
   unfolding soundRow
   used-good u g = rw (u, g .inside, g .lawful) (g .rest)
 
   -- a good row stays good beside other records that have its owner
-  pub good-beside : (w′ : List ℕ) → goodRow w r ≡ true → (isFree r ≡ false → loggedIn w′ (owner r) ≡ true) → goodRow w′ r ≡ true
+  pub good-beside : (w′ : ℕ → Bool) → soundRow w r ≡ true → (isFree r ≡ false → w′ (owner r) ≡ true) → soundRow w′ r ≡ true
   unfolding soundRow
   good-beside w′ h inside = by-test (isFree r)
       (λ f. rw f (rw f at h))
-      (λ u. rw (u, inside u) (and-right (loggedIn w (owner r)) _ (rw u at h)))
+      (λ u. rw (u, inside u) (and-right (w (owner r)) _ (rw u at h)))
 
 -- the free row is good
-pub free-good : (w : List ℕ) → goodRow w freeRow ≡ true
+pub free-good : (w : ℕ → Bool) → soundRow w freeRow ≡ true
 unfolding soundRow isFree owner zeros zeroAt all part
 free-good w = refl
 
@@ -147,7 +146,7 @@ zeros-rowOf who s full short =
     ∙ take-all (14 - s .len) (replicate (14 - s .len) 0) (omega (arith, length-replicate {A = ℕ} (14 - s .len) 0))
 
 -- and the row is good
-pub good-rowOf : (w : List ℕ) (who : ℕ) (s : LockString) → length (s .bytes) ≡ 13 → (who ≡ 0xFF → ⊥) → loggedIn w who ≡ true → legal s ≡ true → goodRow w (rowOf who s) ≡ true
+pub good-rowOf : (w : ℕ → Bool) (who : ℕ) (s : LockString) → length (s .bytes) ≡ 13 → (who ≡ 0xFF → ⊥) → w who ≡ true → legal s ≡ true → soundRow w (rowOf who s) ≡ true
 unfolding normal
 good-rowOf w who s full ne inside lawful = used-good w (rowOf who s) (used-rowOf who s ne) (record {
   inside = rw owner-rowOf inside;

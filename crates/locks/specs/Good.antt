@@ -7,7 +7,6 @@ use lib.ListN.{length}
 use Rattle.rows.specs.Words.{all, any, zeros}
 use Rattle.rows.specs.Rows.{part, row, copies}
 use Rattle.terms.specs.Strings.{legal}
-use Rattle.who.specs.Logins.{loggedIn}
 use Rattle.locks.specs.Row.{owner, stringOf, freeRow, isFree}
 use Rattle.locks.specs.Table.{holdsAt, freeAt}
 
@@ -30,22 +29,12 @@ aloneAt t i = freeAt t i || not (any (holdsAt t (stringOf (row 16 t i))) i)
 unfoldable pub soundRows : ℕ → (ℕ → Bool) → List ℕ → Bool
 soundRows n inside t = eqb (length t) (16 * n) && (all (soundAt inside t) n && all (aloneAt t) n)
 
--- the same beside station records w, which say who is logged in
-abbrev pub goodRow : List ℕ → List ℕ → Bool
-goodRow w r = soundRow (loggedIn w) r
-
-abbrev pub goodAt : List ℕ → List ℕ → ℕ → Bool
-goodAt w t i = soundAt (loggedIn w) t i
-
-abbrev pub goodRows : ℕ → List ℕ → List ℕ → Bool
-goodRows n w t = soundRows n (loggedIn w) t
-
 -- how many locks a master has
 abbrev pub locks : ℕ
 locks = 64
 
-unfoldable pub goodLocks : List ℕ → List ℕ → Bool
-goodLocks w t = goodRows locks w t
+unfoldable pub goodLocks : (ℕ → Bool) → List ℕ → Bool
+goodLocks inside t = soundRows locks inside t
 
 unfoldable pub freshLocks : List ℕ
 freshLocks = copies locks freeRow

@@ -6,6 +6,7 @@ use terms::LockString;
 ghost use mathlib.Core.Path.{_≡_};
 ghost use Prim.Native.Nat.{_+_, _*_, _≤_, _<_};
 ghost use lib.ListN.{length};
+ghost use Rattle.rows.specs.Numbers.{bitAt};
 ghost use Rattle.rows.specs.Words.{first};
 ghost use Rattle.rows.specs.Rows.{row as rowAt, setRow};
 ghost use Rattle.rows.specs.Outcomes.{Gives, Leaves};
@@ -100,14 +101,14 @@ pub fn free_all(table: &mut [u8], who: u8)
     }
 }
 
-// The lock table keeps the rules, beside these station records.
-pub fn is_good(table: &[u8], records: &[u8]) -> bool
-    ensures { λ b. ⌜ Gives (goodLocks (now (records .entry)) (now (table .entry))) b ⌝ }
+// The lock table keeps the rules, where the word says who is logged in, by bit n for number n.
+pub fn is_good(table: &[u8], word: u64) -> bool
+    ensures { λ b. ⌜ Gives (goodLocks (bitAt word) (now (table .entry))) b ⌝ }
 {
     if table.len() != BYTES {
         return false;
     }
-    if !rules::rows_good(table, LOCKS, records) {
+    if !rules::rows_good(table, LOCKS, word) {
         return false;
     }
     rules::rows_alone(table, LOCKS)

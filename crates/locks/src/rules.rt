@@ -6,22 +6,24 @@ ghost use mathlib.Core.Path.{_≡_};
 ghost use mathlib.Core.Bool.{false};
 ghost use Prim.Native.Nat.{ℕ, _+_, _*_, _≤_, _<_};
 ghost use lib.ListN.{length};
+ghost use Rattle.rows.specs.Numbers.{bitAt};
 ghost use Rattle.rows.specs.Words.{all};
 ghost use Rattle.rows.specs.Rows.{row as rowAt};
 ghost use Rattle.terms.specs.Strings.{normal};
 ghost use Rattle.locks.specs.Row.{stringOf};
 ghost use Rattle.locks.specs.Table.{freeAt};
-ghost use Rattle.locks.specs.Good.{goodRow, goodAt, aloneAt};
+ghost use Rattle.locks.specs.Good.{soundRow, soundAt, aloneAt};
 
-// A row by itself: free with zeros, or used by somebody who is logged in, with a legal length and zeros after the string.
-fn row_good(r: &[u8], records: &[u8]) -> bool
+// A row by itself: free with zeros, or used by somebody who is logged in, with a legal length and zeros after the string. The
+// word says who is logged in, by bit n for number n.
+fn row_good(r: &[u8], word: u64) -> bool
     requires { ⌜ length (now r) ≡ 16 ⌝ }
-    ensures { λ b. ⌜ b ≡ goodRow (now (records .entry)) (now (r .entry)) ⌝ }
+    ensures { λ b. ⌜ b ≡ soundRow (bitAt word) (now (r .entry)) ⌝ }
 {
     if r[0] == 0xFF {
         return rows::is_zero(rows::part(r, 1, 15));
     }
-    if !who::is_in(records, wide(r[0])) {
+    if !rows::is_bit(word, wide(r[0])) {
         return false;
     }
     let len = wide(r[1]);
@@ -41,13 +43,13 @@ fn wide(b: u8) -> usize
 }
 
 // Each of the first n rows keeps the rules by itself.
-pub fn rows_good(table: &[u8], n: usize, records: &[u8]) -> bool
+pub fn rows_good(table: &[u8], n: usize, word: u64) -> bool
     requires { ⌜ 16 * n ≤ length (now table) ⌝ }
-    ensures { λ b. ⌜ b ≡ all (goodAt (now (records .entry)) (now (table .entry))) n ⌝ }
+    ensures { λ b. ⌜ b ≡ all (soundAt (bitAt word) (now (table .entry))) n ⌝ }
 {
     let mut i: usize = 0;
     while i < n {
-        if !row_good(rows::part(table, ROW * i, ROW), records) {
+        if !row_good(rows::part(table, ROW * i, ROW), word) {
             return false;
         }
         i += 1;

@@ -35,11 +35,11 @@ use Rattle.master.proofs.RefusalLaws.{Passed, passed, tests-stop, reads
 -- good tables, part by part
 pub records-good : (t w : List ℕ) → goodTables t w ≡ true → goodRecords w ≡ true
 unfolding goodTables
-records-good t w good = and-left (goodRecords w) (goodLocks w t) good
+records-good t w good = and-left (goodRecords w) (goodLocks (loggedIn w) t) good
 
-pub locks-good : (t w : List ℕ) → goodTables t w ≡ true → goodLocks w t ≡ true
+pub locks-good : (t w : List ℕ) → goodTables t w ≡ true → goodLocks (loggedIn w) t ≡ true
 unfolding goodTables
-locks-good t w good = and-right (goodRecords w) (goodLocks w t) good
+locks-good t w good = and-right (goodRecords w) (goodLocks (loggedIn w) t) good
 
 -- the number that an answer of three values gives: that of a login
 unfoldable pub loginNumber : Told → ℕ

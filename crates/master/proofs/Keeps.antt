@@ -26,14 +26,14 @@ use Rattle.master.specs.Refusals.{ANYBODY}
 use Rattle.master.specs.Frames.{frameLocks, frameRecords}
 use Rattle.master.proofs.Deeds.{records-good, locks-good, Deed, refused, quiet, logged-in, locked, unlocked, cleared, logged-out, deed}
 
-pub tables-are : (t w : List ℕ) → goodRecords w ≡ true → goodLocks w t ≡ true → goodTables t w ≡ true
+pub tables-are : (t w : List ℕ) → goodRecords w ≡ true → goodLocks (loggedIn w) t ≡ true → goodTables t w ≡ true
 unfolding goodTables
 tables-are t w r l = and-both r l
 
 -- fresh tables are good
 pub fresh-tables : goodTables freshLocks freshRecords ≡ true
 unfolding goodLocks
-fresh-tables = tables-are freshLocks freshRecords WhoLaws.fresh-good (fresh-good freshRecords)
+fresh-tables = tables-are freshLocks freshRecords WhoLaws.fresh-good (fresh-good (loggedIn freshRecords))
 
 module _ (t w : List ℕ) (good : goodTables t w ≡ true) where
   rg : goodRecords w ≡ true
@@ -61,7 +61,7 @@ module _ (t w : List ℕ) (good : goodTables t w ≡ true) where
     unfolding goodLocks loggedInAs goodCounts
     login-tables = tables-are _ _
         (login-good w rg (lowestFree w) (lowest-free-is w sized free .0) free (loggedInAs name serial product found) n8 s4 refl refl)
-        (login-keeps locks w t (locks-good t w good) _ login-stays)
+        (login-keeps locks (loggedIn w) t (locks-good t w good) _ login-stays)
 
   -- a logout: the number is out, all others stay in, and good tables stay good
   module _ (n : ℕ) (in-now : loggedIn w n ≡ true) where
@@ -78,7 +78,7 @@ module _ (t w : List ℕ) (good : goodTables t w ≡ true) where
     unfolding goodLocks
     logout-tables ne = tables-are _ _
         (logout-good w rg n (omega arith) below)
-        (logout-keeps locks w t (locks-good t w good) n (afterLogout w n) logout-stays)
+        (logout-keeps locks (loggedIn w) t (locks-good t w good) n (loggedIn (afterLogout w n)) logout-stays)
 
 module _ (n : ℕ) (f s t w : List ℕ) (good : goodTables t w ≡ true) where
   -- good tables stay good
@@ -87,9 +87,9 @@ module _ (n : ℕ) (f s t w : List ℕ) (good : goodTables t w ≡ true) where
   deed-keeps a t′ w′ (refused k ne) = good
   deed-keeps a t′ w′ (quiet vs z) = good
   deed-keeps a t′ w′ (logged-in e free name serial product found n8 s4) = login-tables t w good free name serial product found n8 s4
-  deed-keeps a t′ w′ (locked i x b) = tables-are _ _ (records-good t w good) (lock-keeps locks w t (locks-good t w good) n x i (used-number t w good n i) b)
-  deed-keeps a t′ w′ (unlocked i x) = tables-are _ _ (records-good t w good) (unlock-keeps locks w t (locks-good t w good) n x)
-  deed-keeps a t′ w′ (cleared i) = tables-are _ _ (records-good t w good) (clear-keeps locks w t (locks-good t w good) n)
+  deed-keeps a t′ w′ (locked i x b) = tables-are _ _ (records-good t w good) (lock-keeps locks (loggedIn w) t (locks-good t w good) n x i (used-number t w good n i) b)
+  deed-keeps a t′ w′ (unlocked i x) = tables-are _ _ (records-good t w good) (unlock-keeps locks (loggedIn w) t (locks-good t w good) n x)
+  deed-keeps a t′ w′ (cleared i) = tables-are _ _ (records-good t w good) (clear-keeps locks (loggedIn w) t (locks-good t w good) n)
   deed-keeps a t′ w′ (logged-out i ne) = logout-tables t w good n i ne
 
   pub frame-keeps : goodTables (frameLocks n f s t w) (frameRecords n f s t w) ≡ true
@@ -114,9 +114,9 @@ module _ (n : ℕ) (f s t w : List ℕ) (good : goodTables t w ≡ true) where
   frame-others-in = deed-others-in _ _ _ (deed n f s t w)
 
   -- and holds what it held
-  lg : GoodLaws.Good locks w t
+  lg : GoodLaws.Good locks (loggedIn w) t
   unfolding goodLocks
-  lg = GoodLaws.good-is locks w t (locks-good t w good)
+  lg = GoodLaws.good-is locks (loggedIn w) t (locks-good t w good)
 
   module _ (m : ℕ) (nm : m ≡ n → ⊥) (x : LockString) where
     lock-others : (y : LockString) → loggedIn w n ≡ true → length (y .bytes) ≡ 13 → (a : ℕ) (u : List ℕ) → LockCase t n y a u → has u m x ≡ has t m x

@@ -107,7 +107,7 @@ module _ (n : ℕ) (heard : Bool) (t w : List ℕ) where
       unfolding goodLocks after afterLogin
       turned-tables ne on = tables-are _ _
           (login-good w (records-good t w good) n (omega arith) below after name-long serial-long still-in (turned-counts on))
-          (login-keeps locks w t (locks-good t w good) _ (λ a i. turned-logged a ∙ i))
+          (login-keeps locks (loggedIn w) t (locks-good t w good) _ (λ a i. turned-logged a ∙ i))
 
     -- good tables stay good
     turn-deed-keeps : (a : Told) (t′ w′ : List ℕ) → TurnDeed a t′ w′ → goodTables t′ w′ ≡ true

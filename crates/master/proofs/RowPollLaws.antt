@@ -1,5 +1,5 @@
--- The cases of a poll turn over a row, one law each: the refusals of a word, the turn of one record, and what it makes of the row.
-use Prim.Native.Nat.{ℕ, _<_}
+-- The cases of a poll turn over a row, one law each: a number that the word lets pass, the turn of one record, and what it makes of the row.
+use Prim.Native.Nat.{ℕ, _<_, _^_}
 use native.Mathlib.Omega.{arith}
 use mathlib.Core.Path.{_≡_, refl, sym, ap, subst, _∙_}
 use mathlib.Core.Bool.{Bool, true, false, cond, not, _&&_, _||_}
@@ -8,33 +8,24 @@ use lib.Dec.{eqb, ltb, lit<}
 use lib.ListN.{set}
 use lib.Seq.{set-getD}
 use borrow.Author.Tests.{ne-eqb, ltb-true, ltb-false}
+use lib.Pow.{pow-mono}
 use Rattle.rows.proofs.BoolLaws.{by-test, by-eq, both}
+use Rattle.rows.proofs.NumberLaws.{bit-past}
+use Rattle.rows.specs.Numbers.{bitAt}
 use Rattle.who.specs.declared.Station.{Station}
 use Rattle.who.specs.declared.Turn.{Turn}
 use Rattle.who.specs.Good.{numbers}
-use Rattle.who.specs.Logins.{loggedIn}
-use Rattle.who.specs.Row.{vacant, absent, stationIn, isIn, goodRow, wordOf, rollOf, bareRecords}
+use Rattle.who.specs.Row.{vacant, absent, stationIn, isIn, goodRow, wordOf, rollOf}
 use Rattle.who.specs.Turns.{isDue, isOut, turnOf}
-use Rattle.who.proofs.RowLaws.{good-is, length-bare, bare-logged, in-past}
-use Rattle.who.proofs.WhoLaws.{logged-below}
+use Rattle.who.proofs.RowLaws.{good-is, word-in, in-past}
 use Rattle.locks.specs.Good.{locks, soundRows, goodLocks}
 use Rattle.locks.specs.Table.{clearedTable}
 use Rattle.locks.proofs.GoodLaws.{sound-same}
 use Rattle.master.specs.declared.Step.{Step}
 use Rattle.master.specs.declared.Turned.the-variants.{Refused, Turn as Turned′}
-use Rattle.master.specs.Refusals.{ANYBODY, unknown}
+use Rattle.master.specs.Refusals.{ANYBODY}
 use Rattle.master.specs.Polls.{turnTold, withCounts, afterTurn}
 use Rattle.master.specs.RowPolls.{early, rowRefusal, turned, stepTold, stepLocks, rowAfter, RowPolls, wordRefusal, stepRefusal, Steps}
-
--- the refusals of a word: the lock table's test beside the bare records, and the number's
-module _ (word n : ℕ) (t b : List ℕ) (bare : b ≡ bareRecords word) where
-  pub locks-bad : goodLocks b t ≡ false → 11 ≡ wordRefusal word n t
-  unfolding wordRefusal
-  locks-bad m = rw (sym (ap (λ (w : List ℕ). goodLocks w t) bare) ∙ m)
-
-  pub seat-left : goodLocks b t ≡ true → (k : ℕ) → k ≡ cond (unknown n b) 2 (cond (eqb n 0 || eqb n ANYBODY) 5 0) → k ≡ wordRefusal word n t
-  unfolding wordRefusal
-  seat-left y k e = e ∙ rw (sym (ap (λ (w : List ℕ). goodLocks w t) bare) ∙ y) (ap (λ (w : List ℕ). cond (unknown n w) 2 (cond (eqb n 0 || eqb n ANYBODY) 5 0)) bare)
 
 -- three tests in front of a last number
 module _ (a b c : Bool) where
@@ -62,12 +53,12 @@ seated false false true p q = (refl, refl)
 seated false false false p q = both refl p
 
 -- a number that is not refused has a record
-pub word-seated : (word n : ℕ) (t : List ℕ) → wordRefusal word n t ≡ 0 → n < numbers
-unfolding wordRefusal unknown bareRecords
-word-seated word n t z =
-    let w = bareRecords word in
-    let p = three-pass (not (goodLocks w t)) (not (eqb n ANYBODY || loggedIn w n)) (eqb n 0 || eqb n ANYBODY) z in
-    logged-below w (length-bare word numbers) n (seated (eqb n ANYBODY) (eqb n 0) (loggedIn w n) (p .1) (p .2) .0)
+pub word-seated : (word n : ℕ) (t : List ℕ) → word < 2 ^ 64 → wordRefusal word n t ≡ 0 → n < numbers
+unfolding wordRefusal
+word-seated word n t fits z =
+    let p = three-pass (not (goodLocks (bitAt word) t)) (not (eqb n ANYBODY || bitAt word n)) (eqb n 0 || eqb n ANYBODY) z in
+    let inside : bitAt word n ≡ true = seated (eqb n ANYBODY) (eqb n 0) (bitAt word n) (p .1) (p .2) .0 in
+    by-test (ltb n numbers) (λ y. ltb-true n numbers y) (λ m. both inside (bit-past word n (omega (arith, pow-mono {i = 64} {j = n} (ltb-false n numbers m)))))
 
 -- the turn of the record s, decided as r
 module _ (n : ℕ) (heard : Bool) (s : Station) (t : List ℕ) (r : Turn) (decided : r ≡ turnOf (s .misses) (s .slow) heard) where
@@ -134,10 +125,8 @@ module _ (n : ℕ) (heard : Bool) (xs : List Station) (t : List ℕ) where
 
     -- the word refuses what the row refuses
     word-row : wordRefusal (rollOf xs .word) n t ≡ seat
-    unfolding wordRefusal rollOf unknown goodLocks
-    word-row =
-        let same = bare-logged xs (good-is xs good .sized) in
-        rw (good, same n, sound-same locks t (loggedIn (bareRecords (wordOf xs))) (isIn xs) same)
+    unfolding wordRefusal rollOf goodLocks
+    word-row = rw (good, word-in xs n, sound-same locks t (bitAt (wordOf xs)) (isIn xs) (word-in xs))
 
     refusal-row : (s : Station) → stepRefusal (rollOf xs .word) n s heard t ≡ cond (eqb seat 0) (early s heard) seat
     unfolding stepRefusal

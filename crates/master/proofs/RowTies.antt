@@ -67,7 +67,7 @@ module _ (n : ℕ) (heard : Bool) (w t : List ℕ) (stands : isRow w ≡ true) w
   sized : length w ≡ 18 * numbers
   sized = row-is w stands .sized
 
-  same-locks : soundRows locks (isIn xs) t ≡ goodLocks w t
+  same-locks : soundRows locks (isIn xs) t ≡ goodLocks (loggedIn w) t
   unfolding goodLocks
   same-locks = sound-same locks t (isIn xs) (loggedIn w) (stations-logged w sized)
 

@@ -5,10 +5,11 @@ use mathlib.Core.Bool.{Bool, true, false, cond, not, _&&_, _||_}
 use mathlib.Core.List.{List, [], _∷_}
 use lib.Dec.{eqb}
 use lib.ListN.{set}
+use Rattle.rows.specs.Numbers.{bitAt}
 use Rattle.rows.specs.Rows.{setRow}
 use Rattle.who.specs.declared.Station.{Station}
 use Rattle.who.specs.Records.{flag, bytesOf}
-use Rattle.who.specs.Row.{vacant, stationIn, isIn, goodRow, bareRecords}
+use Rattle.who.specs.Row.{vacant, stationIn, isIn, goodRow}
 use Rattle.who.specs.Turns.{isDue, isOut}
 use Rattle.locks.specs.Good.{locks, soundRows, goodLocks}
 use Rattle.locks.specs.Table.{clearedTable}
@@ -18,7 +19,7 @@ use Rattle.master.specs.declared.Turned.{Turned}
 use Rattle.master.specs.declared.Turned.the-variants.{Refused, Turn}
 use Rattle.master.specs.Answers.{Told, refuses, answers}
 use Rattle.master.specs.Polls.{turnTold, afterTurn}
-use Rattle.master.specs.Refusals.{ANYBODY, unknown}
+use Rattle.master.specs.Refusals.{ANYBODY}
 
 -- 12 heard in a turn that wasn't due
 unfoldable pub early : Station → Bool → ℕ
@@ -59,8 +60,8 @@ pub record RowPolls (n : ℕ) (heard : Bool) (xs : List Station) (t : List ℕ) 
 -- the refusals beside a good row with this word of who is logged in: 11, 2, 5
 unfoldable pub wordRefusal : ℕ → ℕ → List ℕ → ℕ
 wordRefusal word n t =
-    cond (not (goodLocks (bareRecords word) t)) 11
-    (cond (unknown n (bareRecords word)) 2
+    cond (not (goodLocks (bitAt word) t)) 11
+    (cond (not (eqb n ANYBODY || bitAt word n)) 2
     (cond (eqb n 0 || eqb n ANYBODY) 5
     0))
 

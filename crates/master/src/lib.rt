@@ -76,7 +76,7 @@ pub fn tables_good(locks: &[u8], records: &[u8]) -> bool
     if !who::is_good(records) {
         return false;
     }
-    locks::is_good(locks, records)
+    locks::is_good(locks, who::lent::word_of(records))
 }
 
 // One frame at the number polled, over tables and a site file that are known to be good: 1 to 9, or what the frame does.

@@ -10,17 +10,28 @@ ghost use mathlib.Core.Bool.{true, cond, not, _&&_, _||_};
 ghost use Prim.Native.Nat.{_*_, _<_};
 ghost use lib.Dec.{eqb, ltb};
 ghost use lib.ListN.{length};
+ghost use Rattle.rows.specs.Numbers.{bitAt};
 ghost use Rattle.rows.specs.Outcomes.{Leaves};
 ghost use Rattle.who.specs.Good.{goodCounts, numbers};
-ghost use Rattle.master.specs.Refusals.{ANYBODY, unknown};
+ghost use Rattle.master.specs.Refusals.{ANYBODY};
 ghost use Rattle.master.specs.Polls.{withCounts};
 ghost use Rattle.master.specs.RowPolls.{early, wordRefusal, stepRefusal, Steps, RowPolls, isTurn, writtenBack};
 
-// 2 or 5, or 0.
-fn seat_refusal(number: u32, records: &[u8]) -> u8
-    ensures { λ r. ⌜ r ≡ cond (unknown number (now (records .entry))) 2 (cond (eqb number 0 || eqb number ANYBODY) 5 0) ⌝ }
+// The number is nobody's, by the word of who is logged in.
+fn is_stranger(number: u32, word: u64) -> bool
+    ensures { λ r. ⌜ r ≡ not (eqb number ANYBODY || bitAt word number) ⌝ }
 {
-    if refusals::is_unknown(number, records) {
+    if number == refusals::ANYBODY {
+        return false;
+    }
+    !rows::is_bit(word, number as usize)
+}
+
+// 2 or 5, or 0.
+fn seat_refusal(number: u32, word: u64) -> u8
+    ensures { λ r. ⌜ r ≡ cond (not (eqb number ANYBODY || bitAt word number)) 2 (cond (eqb number 0 || eqb number ANYBODY) 5 0) ⌝ }
+{
+    if is_stranger(number, word) {
         return 2;
     }
     if number == 0 {
@@ -53,11 +64,10 @@ fn is_early(heard: bool, due: bool) -> bool
 fn word_refusal(word: u64, number: u32, locks: &[u8]) -> u8
     ensures { λ r. ⌜ r ≡ wordRefusal word number (now (locks .entry)) ⌝ }
 {
-    let bare = who::lent::bare_records(word);
-    if !locks::is_good(locks, &bare) {
+    if !locks::is_good(locks, word) {
         return 11;
     }
-    seat_refusal(number, &bare)
+    seat_refusal(number, word)
 }
 
 // The turn of a record that is logged in: 12, or the turn. A station that is out loses its locks and its record.

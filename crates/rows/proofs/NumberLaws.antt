@@ -1,19 +1,20 @@
 -- The laws of specs/Numbers.antt: bytes and the number in them, both ways, over the width.
 use Prim.Native.Nat.{ℕ, zero, suc, _+_, _-_, _*_, _/_, _%_, _^_, _≤_, _<_}
 use native.Mathlib.Omega.{arith}
-use native.Mathlib.Nat.{pow-suc, pow-succ', mul-assoc, add-zero}
-use mathlib.Core.Path.{_≡_, refl, sym, ap, ap₂, _∙_}
+use native.Mathlib.Nat.{pow-suc, pow-succ', mul-assoc, add-zero, one-mul, div-lt-iff-lt-mul, div-div-eq-div-mul}
+use mathlib.Core.Path.{_≡_, refl, sym, ap, ap₂, _∙_, subst}
 use mathlib.Core.Bool.{true, false}
 use mathlib.Core.List.{List, [], _∷_, _++_}
 use lib.Dec.{ltb, eqb, lit<}
 use lib.ListN.{length, drop, getD, length-drop, List·getD-eq-default}
 use lib.Seq.{take-add, drop-drop, length-take-le, ext-getD}
-use borrow.Author.Tests.{ltb-true, ltb-false, eqb-true, eq-eqb}
+use lib.Pow.{pow-pos}
+use borrow.Author.Tests.{ltb-true, ltb-false, eqb-true, eq-eqb, ne-eqb}
 use Rattle.rows.proofs.BoolLaws.{by-test, contra, iff}
 use Rattle.rows.proofs.IndexLaws.{all-at}
 use Rattle.rows.specs.Words.{all, build, same, zeroAt}
 use Rattle.rows.specs.Rows.{part}
-use Rattle.rows.specs.Numbers.{lowFirst, lowBytes}
+use Rattle.rows.specs.Numbers.{lowFirst, lowBytes, bitAt}
 use Rattle.rows.proofs.BuildLaws.{build-list, same-is, same-refl}
 use Rattle.rows.proofs.RowLaws.{length-part, getD-part}
 
@@ -136,3 +137,13 @@ module _ (l : List ℕ) (at : ℕ) where
 
   pub eight-low : at + 8 ≤ length l → lowFirst (part l at 8) ≡ lowFirst (part l at 4) + 4294967296 * lowFirst (part l (at + 4) 4)
   eight-low h = low-parts l at 4 4 h
+
+-- a number has no bit past its size, and its next bit is the next of its half
+pub bit-past : (x n : ℕ) → x < 2 ^ n → bitAt x n ≡ false
+unfolding bitAt
+bit-past x n l =
+    let none : x / 2 ^ n < 1 = div-lt-iff-lt-mul (pow-pos n) .1 (subst (λ (y : ℕ). x < y) (sym (one-mul (2 ^ n))) l) in
+    ne-eqb (x / 2 ^ n % 2) 1 (λ e. omega arith)
+
+pub halved : (x n : ℕ) → x / 2 ^ suc n ≡ x / 2 ^ n / 2
+halved x n = ap (λ (k : ℕ). x / k) (pow-suc 2 n) ∙ sym (div-div-eq-div-mul x (2 ^ n) 2)

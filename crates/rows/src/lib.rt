@@ -7,7 +7,7 @@ ghost use Prim.Native.Nat.{_+_, _*_, _≤_, _<_};
 ghost use lib.ListN.{length};
 ghost use Rattle.rows.specs.Words.{all, same, zeroAt, zeros};
 ghost use Rattle.rows.specs.Rows.{part as partOf, put as putIn, over, copies};
-ghost use Rattle.rows.specs.Numbers.{lowFirst};
+ghost use Rattle.rows.specs.Numbers.{lowFirst, bitAt};
 ghost use Rattle.rows.specs.Outcomes.{Gives};
 
 // The n bytes of s that begin at `at`.
@@ -161,6 +161,16 @@ pub fn is_same(a: &[u8], b: &[u8]) -> bool
         return bytes_same(a, b);
     }
     ends_same(a, b)
+}
+
+// Bit n of a word is set; it has none past the sixty-fourth.
+pub fn is_bit(word: u64, n: usize) -> bool
+    ensures { λ r. ⌜ Gives (bitAt word n) r ⌝ }
+{
+    if 64 <= n {
+        return false;
+    }
+    (word >> n) % 2 == 1
 }
 
 // Parts of four, six, eight and thirteen bytes, by value.

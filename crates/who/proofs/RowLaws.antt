@@ -1,5 +1,5 @@
--- The laws of a row of records: its roll, its rules as facts, who is logged in by the bare records, and the row that stands in bytes, which keeps the rules where they do.
-use Prim.Native.Nat.{ℕ, zero, suc, _+_, _*_, _^_, _≤_, _<_}
+-- The laws of a row of records: its roll, its rules as facts, who is logged in by the word, and the row that stands in bytes, which keeps the rules where they do.
+use Prim.Native.Nat.{ℕ, zero, suc, _+_, _*_, _/_, _%_, _^_, _≤_, _<_}
 use native.Mathlib.Nat.{add-zero, pow-suc, not-suc-le-zero, le-of-suc-le-suc}
 use native.Mathlib.Omega.{arith}
 use mathlib.Core.Path.{_≡_, refl, sym, ap, subst, _∙_}
@@ -13,17 +13,17 @@ use borrow.Author.Tests.{eqb-true, eqb-false, eq-eqb, ne-eqb, leb-true, le-leb, 
 use Rattle.rows.proofs.BoolLaws.{by-test, by-eq, both, and-left, and-right, and-both, or-rest, or-from, contra, iff}
 use Rattle.rows.proofs.IndexLaws.{all-at, all-from}
 use Rattle.rows.proofs.BuildLaws.{length-build, getD-build, zeros-is, is-zeros}
-use Rattle.rows.proofs.NumberLaws.{two-bytes, two-low}
+use Rattle.rows.proofs.NumberLaws.{two-bytes, two-low, halved}
 use Rattle.rows.proofs.RowLaws.{getD-part, length-part}
 use Rattle.who.specs.declared.Station.{Station}
 use Rattle.who.specs.declared.Roll.{Roll}
 use Rattle.rows.specs.Words.{all, zeroAt, zeros}
 use Rattle.rows.specs.Rows.{part, row}
-use Rattle.rows.specs.Numbers.{lowFirst}
+use Rattle.rows.specs.Numbers.{lowFirst, bitAt}
 use Rattle.who.specs.Records.{flag, stationOf, localUser}
 use Rattle.who.specs.Good.{goodCounts, goodRecord, numbers, goodRecords}
 use Rattle.who.specs.Logins.{loggedIn}
-use Rattle.who.specs.Row.{absent, stationIn, isIn, goodStation, goodFrom, goodRow, wordOf, rollOf, noted, halved, bitOf, bareFirst, bareRecords, stationsOf, plain, flagged, isRow}
+use Rattle.who.specs.Row.{absent, stationIn, isIn, goodStation, goodFrom, goodRow, wordOf, rollOf, noted, stationsOf, plain, flagged, isRow}
 use Rattle.who.proofs.RecordLaws.{counts-is, is-counts, sound-is, is-sound, flag-small, flag-back, laid}
 use Rattle.who.proofs.WhoLaws.{logged-at, logged-past}
 use Rattle.who.proofs.WhoLaws as Records
@@ -117,42 +117,36 @@ unfolding isIn stationIn
 in-past xs n h = ap (λ (s : Station). s .logged) (List·getD-eq-default xs absent {n = n} h)
 
 -- a word's bits are its records' flags
-word-rest : (xs : List Station) (n : ℕ) → halved (wordOf xs) n ≡ wordOf (drop n xs)
-unfolding halved
-word-rest xs zero = refl
-word-rest xs (suc n) = rw (word-rest xs n) (by-test (ltb n (length xs))
+word-rest : (xs : List Station) (n : ℕ) → wordOf xs / 2 ^ n ≡ wordOf (drop n xs)
+word-rest xs zero = omega arith
+word-rest xs (suc n) = halved (wordOf xs) n ∙ rw (word-rest xs n) (by-test (ltb n (length xs))
     (λ y. rw (drop-cons xs n absent (ltb-true n (length xs) y)) (unfold wordOf in omega (arith, flag-small (getD xs n absent .logged))))
     (λ f. let out = ltb-false n (length xs) f in
     rw (drop-of-length-le xs {i = n} out, drop-of-length-le xs {i = suc n} (omega arith)) (unfold wordOf in refl)))
 
-word-bit : (xs : List Station) (n : ℕ) → n < length xs → bitOf (wordOf xs) n ≡ flag (isIn xs n)
-unfolding bitOf isIn stationIn
-word-bit xs n l = rw (word-rest xs n, drop-cons xs n absent l) (unfold wordOf in omega (arith, flag-small (getD xs n absent .logged)))
+low-bit : (b : Bool) (k : ℕ) → eqb ((flag b + 2 * k) % 2) 1 ≡ b
+unfolding flag
+low-bit true k = eq-eqb ((1 + 2 * k) % 2) 1 (omega arith)
+low-bit false k = ne-eqb ((0 + 2 * k) % 2) 1 (λ e. omega arith)
 
--- the bare records have the length of a table, and enter each number's bit
-pub length-bare : (word n : ℕ) → length (bareFirst word n) ≡ 18 * numbers
-unfolding bareFirst
-length-bare word zero = length-replicate {A = ℕ} (18 * numbers) 0
-length-bare word (suc n) = length-set (bareFirst word n) (18 * n) (bitOf word n) ∙ length-bare word n
-
-bare-bit : (word m n : ℕ) → m ≤ numbers → n < m → getD (bareFirst word m) (18 * n) 0 ≡ bitOf word n
-unfolding bareFirst
-bare-bit word zero n h l = absurd (not-suc-le-zero l)
-bare-bit word (suc m) n h l = by-eq n m
-    (λ e. rw e (getD-set-same (bareFirst word m) (18 * m) (bitOf word m) 0 (omega (arith, length-bare word m))))
-    (λ ne. getD-set-other (bareFirst word m) (18 * m) (18 * n) (bitOf word m) 0 (λ e. ne (omega arith)) ∙ bare-bit word m n (omega arith) (omega arith))
-
--- and so they say who of the row is logged in
-pub bare-logged : (xs : List Station) → length xs ≡ numbers → (n : ℕ) → loggedIn (bareRecords (wordOf xs)) n ≡ isIn xs n
-unfolding bareRecords
-bare-logged xs sized n = by-test (ltb n numbers)
-    (λ y.
-    let l = ltb-true n numbers y in
-    logged-at (bareFirst (wordOf xs) numbers) (length-bare (wordOf xs) numbers) n l
-    ∙ rw (getD-part (bareFirst (wordOf xs) numbers) (18 * n) 18 0 (lit< tt), add-zero, bare-bit (wordOf xs) numbers n (omega arith) l, word-bit xs n (omega arith)) (flag-back (isIn xs n)))
+pub word-in : (xs : List Station) (n : ℕ) → bitAt (wordOf xs) n ≡ isIn xs n
+unfolding bitAt wordOf isIn stationIn
+word-in xs n = by-test (ltb n (length xs))
+    (λ y. rw (word-rest xs n, drop-cons xs n absent (ltb-true n (length xs) y)) (low-bit (getD xs n absent .logged) (wordOf (drop (suc n) xs))))
     (λ f.
-    let out = ltb-false n numbers f in
-    logged-past (bareFirst (wordOf xs) numbers) (length-bare (wordOf xs) numbers) n out ∙ sym (in-past xs n (omega arith)))
+    let out = ltb-false n (length xs) f in
+    let none : getD xs n absent .logged ≡ false = ap (λ (s : Station). s .logged) (List·getD-eq-default xs absent {n = n} out) in
+    rw (word-rest xs n, drop-of-length-le xs {i = n} out, none))
+
+-- the word from number i on, of the one from the next on
+pub word-more : (xs : List Station) (i : ℕ) → i < length xs → wordOf (drop i xs) ≡ flag (stationIn xs i .logged) + 2 * wordOf (drop (suc i) xs)
+unfolding wordOf stationIn
+word-more xs i l = rw (drop-cons xs i absent l)
+
+pub word-room : (xs : List Station) (n : ℕ) → length xs ≡ numbers → 1 ≤ n → wordOf (drop n xs) < 9223372036854775808
+word-room xs n long some =
+    let short : length (drop n xs) ≤ 63 = simp length-drop (omega arith) in
+    omega (arith, word-fits (drop n xs), pow-mono short)
 
 -- the row that stands in bytes
 module _ (w : List ℕ) where

@@ -1,9 +1,9 @@
 -- The 64 station records as one row of records, one per user number: their rules, who is logged in, and the row in bytes.
-use Prim.Native.Nat.{ℕ, zero, suc, _+_, _*_, _/_, _%_}
+use Prim.Native.Nat.{ℕ, suc, _+_, _*_}
 use mathlib.Core.Bool.{Bool, true, false, cond, not, _&&_, _||_}
 use mathlib.Core.List.{List, [], _∷_, _++_}
 use lib.Dec.{eqb, leb}
-use lib.ListN.{length, getD, set, replicate}
+use lib.ListN.{length, getD, replicate}
 use Rattle.rows.specs.Words.{all, build, zeros}
 use Rattle.rows.specs.Rows.{row}
 use Rattle.who.specs.declared.Station.{Station}
@@ -63,22 +63,6 @@ noted n s rest =
     cond (rest .good && goodStation n s)
     (record { good = true; word = flag (s .logged) + 2 * rest .word })
     (record { good = false; word = 0 })
-
--- the word without its lowest n bits, and bit n
-unfoldable pub halved : ℕ → ℕ → ℕ
-halved word zero = word
-halved word (suc n) = halved word n / 2
-
-unfoldable pub bitOf : ℕ → ℕ → ℕ
-bitOf word n = halved word n % 2
-
--- bytes of records that say who is logged in and nothing else; the first n numbers are entered
-unfoldable pub bareFirst : ℕ → ℕ → List ℕ
-bareFirst word zero = replicate (18 * numbers) 0
-bareFirst word (suc n) = set (bareFirst word n) (18 * n) (bitOf word n)
-
-unfoldable pub bareRecords : ℕ → List ℕ
-bareRecords word = bareFirst word numbers
 
 -- a row in bytes, one record after the other
 unfoldable pub bytesOfRow : List Station → List ℕ

@@ -8,8 +8,10 @@ ghost use mathlib.Core.Path.{_≡_};
 ghost use Prim.Native.Nat.{_*_, _<_};
 ghost use lib.ListN.{length};
 ghost use Rattle.rows.specs.Outcomes.{Gives};
+ghost use Rattle.rows.specs.Rows.{row};
+ghost use Rattle.who.specs.Records.{flag, stationOf};
 ghost use Rattle.who.specs.Good.{numbers};
-ghost use Rattle.who.specs.Row.{vacant as vacantOf, plain, goodStation, rollOf, noted, bareRecords, stationsOf, flagged, isRow};
+ghost use Rattle.who.specs.Row.{vacant as vacantOf, plain, goodStation, wordOf, rollOf, noted, stationsOf, flagged, isRow};
 
 // A record that is zero and no throughout.
 pub fn vacant() -> Station
@@ -108,19 +110,26 @@ pub fn roll_call(row: &[Station]) -> Roll
     roll
 }
 
-// Bytes of records that say who is logged in and nothing else: all that the lock table's check asks of them.
-pub fn bare_records(word: u64) -> [u8; 1152]
-    ensures { λ r. ⌜ Gives (bareRecords word) r ⌝ }
+// 1 where number n is logged in.
+fn bit_of(records: &[u8], n: usize) -> u64
+    requires { ⌜ (length (now records) ≡ 18 * numbers) × (n < numbers) ⌝ }
+    ensures { λ r. ⌜ r ≡ flag (stationOf (row 18 (now (records .entry)) n) .logged) ⌝ }
 {
-    let mut bytes = [0u8; 1152];
-    let mut rest = word;
-    let mut n: usize = 0;
-    while n < NUMBERS {
-        bytes[RECORD * n] = (rest % 2) as u8;
-        rest = rest / 2;
-        n += 1;
+    if records[RECORD * n] == 1 { 1 } else { 0 }
+}
+
+// Who is logged in as a word, bit n for number n, from the records in bytes.
+pub fn word_of(records: &[u8]) -> u64
+    requires { ⌜ length (now records) ≡ 18 * numbers ⌝ }
+    ensures { λ r. ⌜ r ≡ wordOf (stationsOf (now (records .entry))) ⌝ }
+{
+    let mut n = NUMBERS;
+    let mut word: u64 = 0;
+    while 0 < n {
+        n = n - 1;
+        word = bit_of(records, n) + 2 * word;
     }
-    bytes
+    word
 }
 
 // The flags of record n are 0 or 1.

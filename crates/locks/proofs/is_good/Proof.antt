@@ -1,8 +1,9 @@
 use Rattle.locks.proofs.AloneLaws.{good-normal}
-use Rattle.locks.specs.Good.{soundAt, goodAt, soundRows, goodLocks}
+use Rattle.locks.specs.Good.{soundAt, soundRows, goodLocks}
 use Rattle.locks.specs.Table.{freeAt}
 use Rattle.rows.proofs.IndexLaws.{all-at}
 use Rattle.rows.proofs.RowLaws.{length-row}
+use Rattle.rows.specs.Numbers.{bitAt}
 use Rattle.rows.specs.Rows.{row}
 use denote.Ref.{now}
 use lib.ListN.{length}
@@ -24,11 +25,11 @@ returns-2 c = record { answer = rw (eq-eqb _ _ (c .before .before .if1 .left), s
 rows-alone-requires : tie.Need-rows-alone-requires
 unfolding freeAt
 rows-alone-requires c κs =
-    let start = c .before .before .before .before .before in
+    let start = c .before .before .before .before in
     let table = now (start .args .table) in
-    let records = now (start .args .records) in
+    let inside = bitAt (start .args .word) in
     let sized : 16 * 64 ≤ length table = omega arith in
-    (omega arith, λ i l used. good-normal records (row 16 table i) (length-row 16 64 table sized i l) (unfold soundAt in all-at (goodAt records table) 64 i (sym (c .before .rows-good .ensures) ∙ not-false _ (c .if2 .left)) l) used)
+    (omega arith, λ i l used. good-normal inside (row 16 table i) (length-row 16 64 table sized i l) (unfold soundAt in all-at (soundAt inside table) 64 i (sym (c .before .rows-good .ensures) ∙ not-false _ (c .if2 .left)) l) used)
 
 returns-3 : tie.Need-returns-3
 unfolding goodLocks soundRows

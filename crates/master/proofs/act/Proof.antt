@@ -4,6 +4,7 @@ use Rattle.master.proofs.RefusalLaws.{passed, reads-well, number-small,
 use Rattle.master.specs.Frames.{Performs}
 use Rattle.master.specs.Refusals.{frameTests}
 use Rattle.master.specs.Tables.{goodTables}
+use Rattle.who.specs.Logins.{loggedIn}
 use Rattle.locks.specs.Good.{goodLocks}
 use Rattle.who.proofs.WhoLaws.{good-is, logged-below}
 use Rattle.who.specs.Good.{goodRecords}
@@ -40,7 +41,7 @@ read-requires c κs = search needs
 -- good tables have 64 records
 sized : (t w : List ℕ) → goodTables t w ≡ true → length w ≡ 1152
 unfolding goodTables
-sized t w good = good-is w (and-left (goodRecords w) (goodLocks w t) good) .sized
+sized t w good = good-is w (and-left (goodRecords w) (goodLocks (loggedIn w) t) good) .sized
 
 -- what was read from a frame that reads well
 request-of : (f : List ℕ) (r : Reading) → r ≡ readingOf f → refusalOf f ≡ 0 → r .request ≡ requestIn f

@@ -1,6 +1,7 @@
-use Rattle.locks.specs.Good.{soundAt, goodRow, goodAt}
+use Rattle.locks.specs.Good.{soundRow, soundAt}
 use Rattle.rows.proofs.IndexLaws.{Passing, pass-starts, pass-on, pass-breaks, pass-ends}
 use Rattle.rows.proofs.RowLaws.{length-part}
+use Rattle.rows.specs.Numbers.{bitAt}
 use borrow.Author.Tests.{not-true, not-false}
 use denote.Ref.{now}
 use lib.ListN.{length}
@@ -11,36 +12,31 @@ use Rattle.locks.proofs.rules.rows_good.Statement.{statement}
 use Rattle.locks.proofs.rules.rows_good.Tie as tie
 
 abbrev Inv-loop : tie.InvT-loop
-Inv-loop table n records i₀ i = Passing (goodAt records table) n i
+Inv-loop table n word i₀ i = Passing (soundAt (bitAt word) table) n i
 
 abbrev μ-loop : tie.MeasureT-loop
-μ-loop table n records i₀ i = n - i
+μ-loop table n word i₀ i = n - i
 
 loop-holds : tie.Need-loop-holds Inv-loop μ-loop
 loop-holds c = pass-starts _ _
 
-mul-part : tie.Need-mul-part Inv-loop μ-loop
-mul-part c = omega arith
-
-part-requires : tie.Need-part-requires Inv-loop μ-loop
-part-requires c κs = omega arith
-
 row-good-requires : tie.Need-row-good-requires Inv-loop μ-loop
-row-good-requires c κs = ap length (c .part .ensures) ∙ length-part (now (c .before .before .before .before .before .args .table)) (16 * c .before .before .loop .i) 16 (omega arith)
+row-good-requires c κs = ap length (c .part .ensures) ∙ length-part _ (16 * c .before .before .loop .i) 16 (omega arith)
 
 returns : tie.Need-returns Inv-loop μ-loop
 unfolding soundAt
-returns c = pass-breaks _ _ (c .before .before .before .loop-test .taken) (ap (goodRow (now (c .before .before .before .before .before .before .before .args .records))) (sym (c .before .before .part .ensures)) ∙ sym (c .before .row-good .ensures) ∙ not-true _ (c .if1 .taken))
-
-add-i : tie.Need-add-i Inv-loop μ-loop
-add-i c = omega arith
-
-loop-less : tie.Need-loop-less Inv-loop μ-loop
-loop-less c = omega arith
+returns c =
+    let cut = c .before .before in
+    let word = cut .before .before .before .before .args .word in
+    pass-breaks _ _ (cut .before .loop-test .taken) (ap (soundRow (bitAt word)) (sym (cut .part .ensures)) ∙ sym (c .before .row-good .ensures) ∙ not-true _ (c .if1 .taken))
 
 loop-again : tie.Need-loop-again Inv-loop μ-loop
 unfolding soundAt
-loop-again c = pass-on _ _ (c .before .before .before .before .loop .inv) (c .before .before .before .loop-test .taken) (ap (goodRow (now (c .before .before .before .before .before .before .before .args .records))) (sym (c .before .before .part .ensures)) ∙ sym (c .before .row-good .ensures) ∙ not-false _ (c .if1 .left))
+loop-again c =
+    let cut = c .before .before in
+    let turn = cut .before .before in
+    let word = turn .before .before .args .word in
+    pass-on _ _ (turn .loop .inv) (cut .before .loop-test .taken) (ap (soundRow (bitAt word)) (sym (cut .part .ensures)) ∙ sym (c .before .row-good .ensures) ∙ not-false _ (c .if1 .left))
 
 returns-2 : tie.Need-returns-2 Inv-loop μ-loop
 returns-2 c = pass-ends _ _ (c .before .loop .inv) (c .loop-test .left)
@@ -52,11 +48,11 @@ rows-good-spec =
     Inv-loop
     μ-loop
     loop-holds
-    mul-part
-    part-requires
+    (λ c. omega arith)
+    (λ c κs. omega arith)
     row-good-requires
     returns
-    add-i
-    loop-less
+    (λ c. omega arith)
+    (λ c. omega arith)
     loop-again
     returns-2)

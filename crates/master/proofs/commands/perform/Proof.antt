@@ -1,6 +1,7 @@
 use Rattle.master.specs.Frames.{nameFound, loginAnswer, loginRecords, assignable, assignAnswer, answerTo, locksBy, recordsBy}
 use Rattle.master.specs.Answers.{told}
 use Rattle.master.specs.Tables.{goodTables}
+use Rattle.who.specs.Logins.{loggedIn}
 use Rattle.locks.specs.Good.{goodLocks}
 use Rattle.who.specs.Good.{goodRecords}
 use Rattle.frames.specs.Writing.{codeOf}
@@ -31,7 +32,7 @@ enum-known-command-3 c = search needs
 
 log-in-requires : tie.Need-log-in-requires
 unfolding goodTables
-log-in-requires c κs = (and-left (goodRecords (now (c .before .before .before .before .before .before .before .before .args .records))) (goodLocks (now (c .before .before .before .before .before .before .before .before .args .records)) (now (c .before .before .before .before .before .before .before .before .args .locks))) (c .before .before .before .before .before .before .before .before .pre .0 .0), c .before .before .before .before .before .before .before .before .pre .0 .1)
+log-in-requires c κs = (and-left (goodRecords (now (c .before .before .before .before .before .before .before .before .args .records))) (goodLocks (loggedIn (now (c .before .before .before .before .before .before .before .before .args .records))) (now (c .before .before .before .before .before .before .before .before .args .locks))) (c .before .before .before .before .before .before .before .before .pre .0 .0), c .before .before .before .before .before .before .before .before .pre .0 .1)
 
 enum-told-2 : tie.Need-enum-told-2
 enum-told-2 c = search needs
@@ -62,7 +63,7 @@ enum-told-6 c = search needs
 
 log-out-requires : tie.Need-log-out-requires
 unfolding goodTables codeOf
-log-out-requires c κs = (and-left (goodRecords (now (c .before .before .before .before .before .before .before .before .args .records))) (goodLocks (now (c .before .before .before .before .before .before .before .before .args .records)) (now (c .before .before .before .before .before .before .before .before .args .locks))) (c .before .before .before .before .before .before .before .before .pre .0 .0), c .before .before .before .before .before .before .before .before .pre .1 (rw (c .before .before .enum-told6 .given .1)))
+log-out-requires c κs = (and-left (goodRecords (now (c .before .before .before .before .before .before .before .before .args .records))) (goodLocks (loggedIn (now (c .before .before .before .before .before .before .before .before .args .records))) (now (c .before .before .before .before .before .before .before .before .args .locks))) (c .before .before .before .before .before .before .before .before .pre .0 .0), c .before .before .before .before .before .before .before .before .pre .1 (rw (c .before .before .enum-told6 .given .1)))
 
 returns : tie.Need-returns
 unfolding told answerTo locksBy recordsBy

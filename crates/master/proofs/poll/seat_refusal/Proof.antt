@@ -4,20 +4,17 @@ use borrow.Author.Needs.{needs}
 use Rattle.master.proofs.poll.seat_refusal.Statement.{statement}
 use Rattle.master.proofs.poll.seat_refusal.Tie as tie
 
-is-unknown-requires : tie.Need-is-unknown-requires
-is-unknown-requires c κs = search needs
-
 returns : tie.Need-returns
-returns c = rw (sym (c .before .is-unknown .ensures) ∙ c .if1 .taken)
+returns c = rw (sym (c .before .is-stranger .ensures) ∙ c .if1 .taken)
 
 returns-2 : tie.Need-returns-2
-returns-2 c = rw (sym (c .before .before .is-unknown .ensures) ∙ c .before .if1 .left, eq-eqb _ _ (c .if2 .taken))
+returns-2 c = rw (sym (c .before .before .is-stranger .ensures) ∙ c .before .if1 .left, eq-eqb _ _ (c .if2 .taken))
 
 returns-3 : tie.Need-returns-3
-returns-3 c = rw (sym (c .before .before .before .is-unknown .ensures) ∙ c .before .before .if1 .left, ne-eqb _ _ (c .before .if2 .left), eq-eqb _ _ (c .if3 .taken))
+returns-3 c = rw (sym (c .before .before .before .is-stranger .ensures) ∙ c .before .before .if1 .left, ne-eqb _ _ (c .before .if2 .left), eq-eqb _ _ (c .if3 .taken))
 
 returns-4 : tie.Need-returns-4
-returns-4 c = rw (sym (c .before .before .before .is-unknown .ensures) ∙ c .before .before .if1 .left, ne-eqb _ _ (c .before .if2 .left), ne-eqb _ _ (c .if3 .left))
+returns-4 c = rw (sym (c .before .before .before .is-stranger .ensures) ∙ c .before .before .if1 .left, ne-eqb _ _ (c .before .if2 .left), ne-eqb _ _ (c .if3 .left))
 
 pub seat-refusal-spec : {M : Type 1} → statement M
-seat-refusal-spec = tie.close (tie.spec is-unknown-requires returns returns-2 returns-3 returns-4)
+seat-refusal-spec = tie.close (tie.spec (λ c κs. search needs) returns returns-2 returns-3 returns-4)
