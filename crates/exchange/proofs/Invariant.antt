@@ -88,7 +88,7 @@ module _ (k : ℕ) where
 
   own-table : (h : Run) (st : List ℕ) → At h st → (b s : List ℕ) → Exchange k (tables h .locks) (tables h .records) (waitOf st) (answerIn h k (sent st b) s) (tables (h then frame k (sent st b) s) .locks) (tables (h then frame k (sent st b) s) .records)
   unfolding answerIn tables after
-  own-table h st i b s = own-exchange (table _ _ (run-good h)) k (no-mark _ _ (run-good h) k (i .inside)) s st b (i .state-good)
+  own-table h st i b s = own-exchange _ (table _ _ (run-good h)) k (no-mark _ _ (run-good h) k (i .inside)) s st b (i .state-good)
 
   -- the reply is lost
   lost : {t w t′ w′ st : List ℕ} {a : Told} → Inv k t w st → Exchange k t w (waitOf st) a t′ w′ → Inv k t′ w′ st

@@ -38,7 +38,7 @@ answer-comes : {k at : ℕ} {h : Run} {st : List ℕ} → Follows k h at st → 
 unfolding answerIn
 answer-comes {k} {at} {h} {st} d w b s long site =
     let i = invariant k d in
-    own-answer (table _ _ (run-good h)) k (no-mark _ _ (run-good h) k (i .inside)) s (run-good h) site (i .inside) st b (i .state-good) w long
+    own-answer _ (table _ _ (run-good h)) k (no-mark _ _ (run-good h) k (i .inside)) s (run-good h) site (i .inside) st b (i .state-good) w long
 
 -- a reply that is not refused ends the wait
 reply-ends : (st : List ℕ) (b r : ℕ) (st′ : List ℕ) → Replies st b r st′ → replyRefusal st b ≡ 0 → (r ≡ 0) × (waits st′ ≡ false)

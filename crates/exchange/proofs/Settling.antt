@@ -142,7 +142,7 @@ exchanged : {k : ℕ} {t w v : List ℕ} {b : ℕ} {t₁ : List ℕ} {a : Told} 
 exchanged (OwnFrames.Serving.refused j) s = unserved j
 exchanged {b = b} {t₁ = t₁} served s = settles b t₁ s
 
-module _ {n : ℕ} {w t : List ℕ} (g : tableLaws.Good n (loggedIn w) t) (k : ℕ) (nf : k ≡ 0xFF → ⊥) (s : List ℕ) where
+module _ {n : ℕ} (w : List ℕ) {t : List ℕ} (g : tableLaws.Good n (loggedIn w) t) (k : ℕ) (nf : k ≡ 0xFF → ⊥) (s : List ℕ) where
   abbrev Does : List ℕ → List ℕ → Type 0
   Does v f = Exchange k t w v (frameTold k f s t w) (frameLocks k f s t w) (frameRecords k f s t w)
 
