@@ -6,7 +6,7 @@ use mathlib.Core.Bool.{Bool, true, false, not, cond, _&&_, _||_, and-comm, and-t
 use mathlib.Core.List.{List}
 use lib.Dec.{eqb}
 use lib.ListN.{length}
-use borrow.Author.Tests.{eqb-true, eqb-false, eq-eqb, ne-eqb}
+use borrow.Author.Tests.{eqb-true, eq-eqb}
 use Rattle.rows.specs.Words.{any, first}
 use Rattle.rows.specs.Rows.{row}
 use Rattle.rows.proofs.BoolLaws.{by-test, by-eq, and-left, and-right, and-both, refuted, iff, eqb-sym}
@@ -14,7 +14,7 @@ use Rattle.rows.proofs.IndexLaws.{any-at, first-found, any-same, any-and, any-s
 use Rattle.terms.specs.declared.LockString.{LockString}
 use Rattle.terms.specs.Strings.{legal, sameString}
 use Rattle.terms.proofs.StringLaws.{legal-same, same-string-refl, same-string-sym, same-string-trans}
-use Rattle.locks.specs.Row.{owner, stringOf, isFree, freeRow, holds}
+use Rattle.locks.specs.Row.{owner, stringOf, freeRow, holds}
 use Rattle.locks.specs.Table.{rowCount, holdsAt, freeAt, ownerAt, heldAt, isHeld, isOwn, lockStatus, lockTable, unlocks, unlockStatus, unlockTable, clearedTable}
 use Rattle.locks.specs.Holding.{hasAt, has}
 use Rattle.locks.proofs.LockRowLaws.{holds-is, holds-same, free-holds, free-free, owner-rowOf, holds-rowOf, GoodUsed, good-used}
@@ -87,10 +87,6 @@ module _ {n : ℕ} {w : ℕ → Bool} {t : List ℕ} (g : Good n w t) where
     pub held-in : w a ≡ true
     held-in = subst (λ (b : ℕ). w b ≡ true) (has-row t a x h .1 .owned) (used-row .inside)
 
-    pub held-number : a ≡ 0xFF → ⊥
-    unfolding isFree
-    held-number e = let r = has-row t a x h .1 in eqb-false _ _ (holds-is x _ (r .held) .used) (r .owned ∙ e)
-
     pub held-legal : legal x ≡ true
     held-legal = sym (legal-same _ x (holds-is x _ (has-row t a x h .1 .held) .string)) ∙ used-row .lawful
 
@@ -131,11 +127,6 @@ has-granted t who s l h f full ne a x =
     fills-has (lock-fills t who s full l h f) a x
     ∙ rw (holds-rowOf who s full ne x, owner-rowOf who s, eqb-sym who a, and-comm (sameString s x) (eqb a who))
 
--- any other answer to a lock leaves the table
-pub lock-stays : (t : List ℕ) (who : ℕ) (s : LockString) → (lockStatus t who s ≡ 0x00 → ⊥) → lockTable t who s ≡ t
-unfolding lockTable
-lock-stays t who s ne = rw (ne-eqb (lockStatus t who s) 0 ne)
-
 -- the five answers to a lock, each with the table that is left
 pub data LockCase (t : List ℕ) (who : ℕ) (s : LockString) : ℕ → List ℕ → Type 0 where
   illegal : legal s ≡ false → LockCase t who s 0x02 t
@@ -165,10 +156,6 @@ module _ {n : ℕ} {w : ℕ → Bool} {t : List ℕ} (g : Good n w t) (who : ℕ
   pub unlocks-is : unlocks t who s ≡ (legal s && has t who s)
   unfolding unlocks
   unlocks-is = ap (λ (b : Bool). legal s && b) (own-is g who s)
-
-  pub unlock-status : unlockStatus t who s ≡ cond (legal s && has t who s) 0x00 0x02
-  unfolding unlockStatus
-  unlock-status = rw unlocks-is
 
   pub unlock-case : UnlockCase t who s (unlockStatus t who s) (unlockTable t who s)
   unfolding unlockStatus

@@ -9,17 +9,16 @@ use lib.ListN.{length}
 use borrow.Author.Tests.{eqb-false, not-true}
 use Rattle.rows.specs.Rows.{row, copies}
 use Rattle.rows.proofs.BoolLaws.{by-test, by-eq, both, and-left, and-right}
-use Rattle.rows.proofs.IndexLaws.{none-from}
 use Rattle.rows.proofs.RowLaws.{length-copies, row-copies}
 use Rattle.terms.specs.declared.LockString.{LockString}
 use Rattle.terms.proofs.StringLaws.{same-string-refl}
 use Rattle.locks.specs.Row.{owner, stringOf, freeRow, holds}
-use Rattle.locks.specs.Table.{holdsAt, isHeld, lockStatus, lockTable, unlockTable, clearedTable}
+use Rattle.locks.specs.Table.{isHeld, lockStatus, lockTable, unlockTable, clearedTable}
 use Rattle.locks.specs.Good.{soundRow, locks, soundRows, freshLocks}
-use Rattle.locks.specs.Holding.{hasAt, has}
+use Rattle.locks.specs.Holding.{has}
 use Rattle.locks.proofs.LockRowLaws.{is-holds, free-holds, free-free, free-good, good-rowOf, good-beside, holds-rowOf}
 use Rattle.locks.proofs.TableLaws.{Fills, Frees, row-held, lock-fills, unlock-frees, clear-frees}
-use Rattle.locks.proofs.GoodLaws.{Good, good-is, is-good, count-is}
+use Rattle.locks.proofs.GoodLaws.{Good, good-is, is-good}
 use Rattle.locks.proofs.HoldingLaws.{row-has, held-same, held-in, has-cleared, LockCase, illegal, own, other, full, granted, lock-case}
 
 -- a free row is filled with a good row, whose string nobody holds
@@ -110,16 +109,7 @@ module _ (n : ℕ) where
     one-row = λ x i j l m p q. both (rw (free-row i l) at p) (free-holds x freeRow free-free);
   })
 
-  pub free-rows-has : (a : ℕ) (x : LockString) → has (copies n freeRow) a x ≡ false
-  unfolding has hasAt holdsAt
-  free-rows-has a x = rw (count-is n (copies n freeRow) (length-copies n freeRow))
-      (none-from (hasAt (copies n freeRow) a x) n (λ i l. rw (free-row i l, free-holds x freeRow free-free)))
-
--- the fresh table is good beside any records, and nobody has anything
+-- the fresh table is good, whoever is logged in
 pub fresh-good : (w : ℕ → Bool) → soundRows locks w freshLocks ≡ true
 unfolding freshLocks
 fresh-good w = free-rows-good locks w
-
-pub fresh-has : (a : ℕ) (x : LockString) → has freshLocks a x ≡ false
-unfolding freshLocks
-fresh-has a x = free-rows-has locks a x

@@ -2,7 +2,7 @@
 use Prim.Native.Nat.{ℕ, _+_, _-_, _*_, _≤_}
 use native.Mathlib.Omega.{arith}
 use mathlib.Core.Path.{_≡_, refl, sym, ap, _∙_}
-use mathlib.Core.Bool.{Bool, true, false, not, _&&_, and-true, and-false}
+use mathlib.Core.Bool.{Bool, true, false, not, _&&_}
 use mathlib.Core.List.{List, [], _∷_, _++_, append-assoc}
 use lib.Dec.{eqb, lit≤}
 use lib.ListN.{length, take, drop, replicate, length-append, length-replicate}
@@ -12,7 +12,6 @@ use Rattle.rows.specs.Words.{all, zeros, zeroAt}
 use Rattle.rows.specs.Rows.{part, row, over}
 use Rattle.rows.proofs.BoolLaws.{by-test, and-left, and-right}
 use Rattle.rows.proofs.BuildLaws.{is-zeros, drop-zeros}
-use Rattle.rows.proofs.RowLaws.{length-part}
 use Rattle.terms.specs.declared.LockString.{LockString}
 use Rattle.terms.specs.Strings.{stringAt, stringBytes, legal, key, sameString, normal}
 use Rattle.terms.proofs.StringLaws.{string-inside, legal-len, legal-same, normal-is-same, length-key, length-normal, same-string-normal, same-string-right}
@@ -27,11 +26,6 @@ row-laid who s h = rw h
 pub row-string : (t : List ℕ) (i : ℕ) → stringAt t (16 * i + 1) ≡ stringOf (row 16 t i)
 unfolding stringOf stringAt
 row-string t i = sym (string-inside t (16 * i) 16 1 (lit≤ tt))
-
--- the string of a row has thirteen bytes
-pub string-full : (r : List ℕ) → length r ≡ 16 → length (stringOf r .bytes) ≡ 13
-unfolding stringOf stringAt
-string-full r h = length-part r 2 13 (omega arith)
 
 -- a row that holds a string
 pub record Holds (x : LockString) (r : List ℕ) : Type 0 where
@@ -90,12 +84,6 @@ module _ (who : ℕ) (s : LockString) where
 pub freed-long : (who : ℕ) (r : List ℕ) → length r ≡ 16 → length (freed who r) ≡ 16
 unfolding freed
 freed-long who r h = by-test (eqb (owner r) who) (λ y. rw y) (λ m. rw m h)
-
-pub holds-freed : (who : ℕ) (x : LockString) (r : List ℕ) → holds x (freed who r) ≡ (holds x r && not (eqb (owner r) who))
-unfolding freed
-holds-freed who x r = by-test (eqb (owner r) who)
-    (λ y. rw (y, free-holds x freeRow free-free) (sym (and-false (holds x r))))
-    (λ m. rw m (sym (and-true (holds x r))))
 
 -- a good used row
 pub record GoodUsed (w : ℕ → Bool) (r : List ℕ) : Type 0 where

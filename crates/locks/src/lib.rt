@@ -7,11 +7,10 @@ ghost use mathlib.Core.Path.{_≡_};
 ghost use Prim.Native.Nat.{_+_, _*_, _≤_, _<_};
 ghost use lib.ListN.{length};
 ghost use Rattle.rows.specs.Numbers.{bitAt};
-ghost use Rattle.rows.specs.Words.{first};
 ghost use Rattle.rows.specs.Rows.{row as rowAt, setRow};
 ghost use Rattle.rows.specs.Outcomes.{Gives, Leaves};
 ghost use Rattle.locks.specs.Row.{freed};
-ghost use Rattle.locks.specs.Table.{holdsAt, freeAt, heldAt, lowestFree as lowestFreeOf, lockStatus, lockTable, unlockStatus, unlockTable, clearedTable};
+ghost use Rattle.locks.specs.Table.{lowestFree as lowestFreeOf, lockStatus, lockTable, unlockStatus, unlockTable, clearedTable};
 ghost use Rattle.locks.specs.Good.{locks as lockCount, goodLocks, freshLocks};
 
 pub const LOCKS: usize = 64;

@@ -4,10 +4,10 @@ use terms::LockString;
 use terms::table;
 use terms::table::Shape;
 ghost use mathlib.Core.Path.{_≡_};
-ghost use Prim.Native.Nat.{_+_, _*_, _≤_, _<_};
+ghost use Prim.Native.Nat.{_+_, _*_, _≤_};
 ghost use lib.ListN.{length};
 ghost use Rattle.rows.specs.Words.{first};
-ghost use Rattle.rows.specs.Rows.{row as rowAt, setRow};
+ghost use Rattle.rows.specs.Rows.{setRow};
 ghost use Rattle.locks.specs.Row.{lockRows, rowOf};
 ghost use Rattle.locks.specs.Table.{holdsAt, freeAt, ownerAt};
 

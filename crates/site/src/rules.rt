@@ -6,12 +6,12 @@ use crate::overlaps;
 use crate::search;
 use crate::sizes;
 ghost use mathlib.Core.Path.{_≡_};
-ghost use mathlib.Core.Bool.{true, false, _&&_};
-ghost use Prim.Native.Nat.{ℕ, _+_, _*_, _≤_, _<_};
+ghost use mathlib.Core.Bool.{true, false};
+ghost use Prim.Native.Nat.{_+_, _*_, _≤_, _<_};
 ghost use lib.ListN.{length};
 ghost use Rattle.rows.specs.Words.{all, zeros};
-ghost use Rattle.site.specs.Layout.{users, partitions, partitionsFrom, wholeLength, spareAt, partitionRow};
-ghost use Rattle.site.specs.Rules.{goodHeader, nameAlone, goodUser, ranged, sound, numberAlone, apart, goodPartition};
+ghost use Rattle.site.specs.Layout.{users, partitions, partitionsFrom, wholeLength, spareAt};
+ghost use Rattle.site.specs.Rules.{goodHeader, nameAlone, ranged, sound, numberAlone, goodPartition};
 
 // Counts, offsets and the length of the file.
 pub fn header_good(file: &[u8]) -> bool

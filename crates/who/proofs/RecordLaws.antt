@@ -17,7 +17,6 @@ use Rattle.rows.specs.Numbers.{lowFirst, lowBytes}
 use Rattle.who.specs.declared.Station.{Station}
 use Rattle.who.specs.Records.{flag, bytesOf, stationOf, nobody, localUser}
 use Rattle.who.specs.Good.{goodCounts, goodRecord}
-use Rattle.who.specs.Logins.{loggedInAs}
 
 -- misses and slow turns in range
 pub record Counts (misses slow : ℕ) : Type 0 where
@@ -182,11 +181,6 @@ module _ (s : Station) where
           counts = rw (misses-bytesOf (omega (arith, k .few)), slow-bytesOf) k;
           out = λ z. absurd (omega arith);
         })
-
--- the record of a login
-pub login-record-good : (name serial : List ℕ) (product : ℕ) (found : Bool) → length name ≡ 8 → length serial ≡ 4 → goodRecord (bytesOf (loggedInAs name serial product found)) ≡ true
-unfolding loggedInAs goodCounts
-login-record-good name serial product found n s = bytesOf-good (loggedInAs name serial product found) n s refl refl
 
 -- a record by its fields
 module _ (r : List ℕ) (full : length r ≡ 18) where

@@ -6,9 +6,9 @@ use mathlib.Core.Path.{_≡_, refl, sym, ap, subst, _∙_}
 use mathlib.Core.Bool.{Bool, true, false, cond, not, _&&_, _||_, and-true}
 use mathlib.Core.List.{List, [], _∷_}
 use lib.Dec.{eqb, leb, ltb, lit<}
-use lib.ListN.{length, drop, getD, replicate, length-set, length-replicate, length-drop, drop-of-length-le, List·getD-eq-default}
+use lib.ListN.{length, drop, getD, replicate, length-drop, drop-of-length-le, List·getD-eq-default}
 use lib.Pow.{pow-mono}
-use lib.Seq.{drop-cons, drop-length, getD-set-same, getD-set-other}
+use lib.Seq.{drop-cons, drop-length}
 use borrow.Author.Tests.{eqb-true, eqb-false, eq-eqb, ne-eqb, leb-true, le-leb, ltb-true, ltb-false, not-true}
 use Rattle.rows.proofs.BoolLaws.{by-test, by-eq, both, and-left, and-right, and-both, or-rest, or-from, contra, iff}
 use Rattle.rows.proofs.IndexLaws.{all-at, all-from}
@@ -24,7 +24,7 @@ use Rattle.who.specs.Records.{flag, stationOf, localUser}
 use Rattle.who.specs.Good.{goodCounts, goodRecord, numbers, goodRecords}
 use Rattle.who.specs.Logins.{loggedIn}
 use Rattle.who.specs.Row.{absent, stationIn, isIn, goodStation, goodFrom, goodRow, wordOf, rollOf, noted, stationsOf, plain, flagged, isRow}
-use Rattle.who.proofs.RecordLaws.{counts-is, is-counts, sound-is, is-sound, flag-small, flag-back, laid}
+use Rattle.who.proofs.RecordLaws.{counts-is, is-counts, sound-is, is-sound, flag-small, laid}
 use Rattle.who.proofs.WhoLaws.{logged-at, logged-past}
 use Rattle.who.proofs.WhoLaws as Records
 

@@ -3,13 +3,13 @@ use Prim.Native.Nat.{ℕ, _*_, _/_, _≤_, _<_}
 use native.Mathlib.Nat.{add-zero}
 use native.Mathlib.Omega.{arith}
 use mathlib.Core.Path.{_≡_, refl, sym, ap, _∙_}
-use mathlib.Core.Bool.{Bool, true, false, not, cond, _&&_}
+use mathlib.Core.Bool.{true, false, not, cond, _&&_}
 use mathlib.Core.List.{List, append-nil}
 use lib.Dec.{eqb, leb, ltb, lit<}
 use lib.ListN.{length, getD, drop-of-length-le}
 use borrow.Author.Tests.{eqb-true, eq-eqb, ne-eqb, ltb-true, ltb-false, lt-ltb, le-ltb, leb-true, le-leb, not-true, not-false}
 use Rattle.rows.proofs.BoolLaws.{by-test, by-eq, both, and-left, and-right, and-both}
-use Rattle.rows.proofs.IndexLaws.{first-least, all-at, all-from, first-found, first-none, found-if, missing-if}
+use Rattle.rows.proofs.IndexLaws.{first-least, all-at, all-from, first-found, found-if}
 use Rattle.rows.proofs.BuildLaws.{same-is, same-refl}
 use Rattle.rows.proofs.RowLaws.{copies-front, row-copies, getD-part, over-first, length-copies, length-setRow, row-setRow, row-setRow-other}
 use Rattle.rows.specs.Words.{all, first, same}
@@ -60,12 +60,6 @@ module _ (w : List ℕ) (sized : length w ≡ 18 * numbers) where
 
   pub logged-below : (n : ℕ) → loggedIn w n ≡ true → n < numbers
   logged-below n y = by-test (ltb n numbers) (ltb-true n numbers) (λ f. both y (logged-past n (ltb-false n numbers f)))
-
--- user 0 is always logged in
-pub local-in : (w : List ℕ) → goodRecords w ≡ true → loggedIn w 0 ≡ true
-local-in w good =
-    let g = good-is w good in
-    logged-at w (g .sized) 0 (lit< tt) ∙ rw (g .local)
 
 -- record n set to r
 module _ (w : List ℕ) (sized : length w ≡ 18 * numbers) (n : ℕ) (b : n < numbers) (r : List ℕ) (full : length r ≡ 18) where
@@ -163,12 +157,6 @@ module _ (w : List ℕ) where
         let here = free (lowestFree w) (rw lowest-first (first-found (freeNumber w) numbers found .1)) in
         (here .0, here .1, below-lowest)
 
-    -- where there is none, every number is taken
-    pub none-free : numbers ≤ lowestFree w → (lowestFree w ≡ numbers) × ((m : ℕ) → 1 ≤ m → m < numbers → loggedIn w m ≡ true)
-    none-free h =
-        let none = missing-if (freeNumber w) numbers (rw lowest-first at h) in
-        (lowest-first ∙ first-none (freeNumber w) numbers none, λ m l b. below-lowest m l (omega arith))
-
 -- the fresh records are 64 times nobody, with user 0 put down over the first
 abbrev empty : List ℕ
 empty = copies numbers nobody
@@ -204,10 +192,3 @@ fresh-good = is-good freshRecords (record {
   local = rw fresh-is (set-same empty empty-sized 0 (lit< tt) localUser refl);
   each = rw fresh-is (set-each empty empty-sized 0 (lit< tt) localUser refl local-good (λ m b. rw (empty-row m b) nobody-good));
 })
-
-pub fresh-logged : (n : ℕ) → loggedIn freshRecords n ≡ eqb n 0
-fresh-logged n = rw fresh-is (set-logged empty empty-sized 0 (lit< tt) localUser refl n ∙ rw (empty-logged n) (itself (eqb n 0)))
-  where
-    itself : (b : Bool) → cond b true false ≡ b
-    itself true = refl
-    itself false = refl

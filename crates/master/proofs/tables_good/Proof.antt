@@ -1,7 +1,7 @@
 use Rattle.master.specs.Tables.{goodTables}
 use Rattle.locks.specs.Good.{goodLocks}
 use Rattle.who.specs.Logins.{loggedIn}
-use Rattle.who.specs.Row.{wordOf, stationsOf}
+use Rattle.who.specs.Row.{stationsOf}
 use Rattle.who.proofs.RowLaws.{word-in, stations-logged}
 use Rattle.who.proofs.WhoLaws.{good-is}
 use Rattle.rows.specs.Numbers.{bitAt}

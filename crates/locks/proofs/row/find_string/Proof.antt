@@ -1,5 +1,4 @@
 use Rattle.locks.proofs.AloneLaws.{held-holds}
-use Rattle.locks.specs.Row.{lockRows}
 use Rattle.terms.specs.declared.table.Shape.{Shape}
 use Rattle.terms.specs.Tables.{rowHolds}
 use Rattle.rows.specs.Words.{first}

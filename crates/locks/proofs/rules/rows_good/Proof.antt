@@ -3,7 +3,6 @@ use Rattle.rows.proofs.IndexLaws.{Passing, pass-starts, pass-on, pass-breaks, p
 use Rattle.rows.proofs.RowLaws.{length-part}
 use Rattle.rows.specs.Numbers.{bitAt}
 use borrow.Author.Tests.{not-true, not-false}
-use denote.Ref.{now}
 use lib.ListN.{length}
 use mathlib.Core.Path.{sym, ap, _∙_}
 use native.Mathlib.Omega.{arith}

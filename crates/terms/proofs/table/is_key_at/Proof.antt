@@ -1,4 +1,4 @@
-use Rattle.terms.specs.Strings.{stringAt, key}
+use Rattle.terms.specs.Strings.{stringAt}
 use Rattle.rows.specs.Words.{same}
 use borrow.Author.Tests.{eq-eqb, ne-eqb}
 use denote.Ref.{now}
