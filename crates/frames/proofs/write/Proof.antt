@@ -7,20 +7,11 @@ use borrow.Author.Needs.{needs}
 use Rattle.frames.proofs.write.Statement.{statement}
 use Rattle.frames.proofs.write.Tie as tie
 
-length-of-requires : tie.Need-length-of-requires
-length-of-requires c κs = search needs
-
 returns : tie.Need-returns
 unfolding writtenOf bufferAfter
 returns c = let a = c .before .before .before .args in
     let short = lt-ltb (length (now (a .buffer))) (length (frameOf (a .q))) (omega (arith, c .before .length-of .ensures)) in
     record { answer = rw short; left = rw short }
-
-write-frame-requires : tie.Need-write-frame-requires
-write-frame-requires c κs = search needs
-
-same-length : tie.Need-same-length
-same-length c = search needs
 
 returns-2 : tie.Need-returns-2
 unfolding writtenOf bufferAfter
@@ -30,4 +21,4 @@ returns-2 c = let a = c .before .before .before .before .before .before .before 
 
 pub write-spec : {M : Type 1} → statement M
 write-spec =
-    tie.close (tie.spec length-of-requires returns write-frame-requires same-length returns-2)
+    tie.close (tie.spec (λ c κs. search needs) returns (λ c κs. search needs) (λ c. search needs) returns-2)

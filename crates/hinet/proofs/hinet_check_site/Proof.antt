@@ -4,9 +4,6 @@ use borrow.Author.Needs.{needs}
 use Rattle.hinet.proofs.hinet_check_site.Statement.{statement}
 use Rattle.hinet.proofs.hinet_check_site.Tie as tie
 
-is-good-requires : tie.Need-is-good-requires
-is-good-requires c κs = search needs
-
 returns : tie.Need-returns
 unfolding siteWord
 returns c = record { answer = rw (sym (c .before .is-good .ensures .answer) ∙ c .if1 .taken) }
@@ -16,4 +13,4 @@ unfolding siteWord
 returns-2 c = record { answer = rw (sym (c .before .is-good .ensures .answer) ∙ c .if1 .left) }
 
 pub hinet-check-site-spec : {M : Type 1} → statement M
-hinet-check-site-spec = tie.close (tie.spec is-good-requires returns returns-2)
+hinet-check-site-spec = tie.close (tie.spec (λ c κs. search needs) returns returns-2)

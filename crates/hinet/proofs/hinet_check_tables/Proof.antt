@@ -4,9 +4,6 @@ use borrow.Author.Needs.{needs}
 use Rattle.hinet.proofs.hinet_check_tables.Statement.{statement}
 use Rattle.hinet.proofs.hinet_check_tables.Tie as tie
 
-tables-good-requires : tie.Need-tables-good-requires
-tables-good-requires c κs = search needs
-
 returns : tie.Need-returns
 unfolding tablesWord
 returns c = record { answer = rw (sym (c .before .tables-good .ensures .answer) ∙ c .if1 .taken) }
@@ -16,4 +13,4 @@ unfolding tablesWord
 returns-2 c = record { answer = rw (sym (c .before .tables-good .ensures .answer) ∙ c .if1 .left) }
 
 pub hinet-check-tables-spec : {M : Type 1} → statement M
-hinet-check-tables-spec = tie.close (tie.spec tables-good-requires returns returns-2)
+hinet-check-tables-spec = tie.close (tie.spec (λ c κs. search needs) returns returns-2)

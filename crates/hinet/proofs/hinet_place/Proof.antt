@@ -8,35 +8,11 @@ use borrow.Author.Needs.{needs}
 use Rattle.hinet.proofs.hinet_place.Statement.{statement}
 use Rattle.hinet.proofs.hinet_place.Tie as tie
 
-no-row-requires : tie.Need-no-row-requires
-no-row-requires c κs = search needs
-
 returns : tie.Need-returns
 returns c = record { answer = c .no-row .ensures ∙ sym (large-word _ _ _ _ _ (inl (c .before .if1 .taken))) }
 
-no-row-requires-2 : tie.Need-no-row-requires-2
-no-row-requires-2 c κs = search needs
-
 returns-2 : tie.Need-returns-2
 returns-2 c = record { answer = c .no-row2 .ensures ∙ sym (large-word _ _ _ _ _ (inr (c .before .if2 .taken))) }
-
-cast-t8 : tie.Need-cast-t8
-cast-t8 c = search needs
-
-cast-t10 : tie.Need-cast-t10
-cast-t10 c = search needs
-
-track-of-requires : tie.Need-track-of-requires
-track-of-requires c κs = search needs
-
-sector-of-requires : tie.Need-sector-of-requires
-sector-of-requires c κs = search needs
-
-place-requires : tie.Need-place-requires
-place-requires c κs = search needs
-
-pack-place-requires : tie.Need-pack-place-requires
-pack-place-requires c κs = search needs
 
 returns-3 : tie.Need-returns-3
 unfolding addressOf placeWord
@@ -46,14 +22,14 @@ pub hinet-place-spec : {M : Type 1} → statement M
 hinet-place-spec =
     tie.close
     (tie.spec
-    no-row-requires
+    (λ c κs. search needs)
     returns
-    no-row-requires-2
+    (λ c κs. search needs)
     returns-2
-    cast-t8
-    cast-t10
-    track-of-requires
-    sector-of-requires
-    place-requires
-    pack-place-requires
+    (λ c. search needs)
+    (λ c. search needs)
+    (λ c κs. search needs)
+    (λ c κs. search needs)
+    (λ c κs. search needs)
+    (λ c κs. search needs)
     returns-3)

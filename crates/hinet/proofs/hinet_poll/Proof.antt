@@ -5,18 +5,6 @@ use borrow.Author.Needs.{needs}
 use Rattle.hinet.proofs.hinet_poll.Statement.{statement}
 use Rattle.hinet.proofs.hinet_poll.Tie as tie
 
-poll-turn-requires : tie.Need-poll-turn-requires
-poll-turn-requires c κs = search needs
-
-pack-turn-requires : tie.Need-pack-turn-requires
-pack-turn-requires c κs = search needs
-
-same-length : tie.Need-same-length
-same-length c = search needs
-
-same-length-2 : tie.Need-same-length-2
-same-length-2 c = search needs
-
 returns : tie.Need-returns
 unfolding isHeard
 returns c = let p = c .before .before .before .before .before .poll-turn .ensures in
@@ -24,4 +12,4 @@ returns c = let p = c .before .before .before .before .before .poll-turn .ensure
 
 pub hinet-poll-spec : {M : Type 1} → statement M
 hinet-poll-spec =
-    tie.close (tie.spec poll-turn-requires pack-turn-requires same-length same-length-2 returns)
+    tie.close (tie.spec (λ c κs. search needs) (λ c κs. search needs) (λ c. search needs) (λ c. search needs) returns)

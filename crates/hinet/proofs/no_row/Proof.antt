@@ -3,9 +3,6 @@ use borrow.Author.Needs.{needs}
 use Rattle.hinet.proofs.no_row.Statement.{statement}
 use Rattle.hinet.proofs.no_row.Tie as tie
 
-is-good-requires : tie.Need-is-good-requires
-is-good-requires c κs = search needs
-
 returns : tie.Need-returns
 returns c = rw (sym (c .before .is-good .ensures .answer) ∙ c .if1 .taken)
 
@@ -13,4 +10,4 @@ returns-2 : tie.Need-returns-2
 returns-2 c = rw (sym (c .before .is-good .ensures .answer) ∙ c .if1 .left)
 
 pub no-row-spec : {M : Type 1} → statement M
-no-row-spec = tie.close (tie.spec is-good-requires returns returns-2)
+no-row-spec = tie.close (tie.spec (λ c κs. search needs) returns returns-2)

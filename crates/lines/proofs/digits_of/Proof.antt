@@ -12,33 +12,12 @@ abbrev μ-loop : tie.MeasureT-loop
 loop-holds : tie.Need-loop-holds Inv-loop μ-loop
 loop-holds c = spelling-begins (c .args .n) (c .fits .n .fits)
 
-cast-digit : tie.Need-cast-digit Inv-loop μ-loop
-cast-digit c = omega arith
-
-digit-requires : tie.Need-digit-requires Inv-loop μ-loop
-digit-requires c κs = omega arith
-
-array-write-bytes : tie.Need-array-write-bytes Inv-loop μ-loop
-array-write-bytes c = omega arith
-
 sub-first : tie.Need-sub-first Inv-loop μ-loop
 sub-first c = spelling-room _ _ _ _ (c .before .before .loop .inv) (c .before .loop-test .taken)
-
-loop-less : tie.Need-loop-less Inv-loop μ-loop
-loop-less c = omega arith
 
 loop-again : tie.Need-loop-again Inv-loop μ-loop
 loop-again c = let room = spelling-room _ _ _ _ (c .before .before .loop .inv) (c .before .loop-test .taken) in
     rw (c .digit .ensures) (spelling-on _ _ _ _ _ (omega arith) (c .before .before .loop .inv) (c .before .loop-test .taken))
-
-cast-digit-2 : tie.Need-cast-digit-2 Inv-loop μ-loop
-cast-digit-2 c = omega arith
-
-digit-requires-2 : tie.Need-digit-requires-2 Inv-loop μ-loop
-digit-requires-2 c κs = omega arith
-
-array-write-bytes-2 : tie.Need-array-write-bytes-2 Inv-loop μ-loop
-array-write-bytes-2 c = omega arith
 
 returns : tie.Need-returns Inv-loop μ-loop
 returns c = (c .before .before .loop .inv .inside, rw (c .digit2 .ensures) (spelling-ends _ _ _ _ (c .before .before .loop .inv) (c .before .loop-test .left)))
@@ -50,13 +29,13 @@ digits-of-spec =
     Inv-loop
     μ-loop
     loop-holds
-    cast-digit
-    digit-requires
-    array-write-bytes
+    (λ c. omega arith)
+    (λ c κs. omega arith)
+    (λ c. omega arith)
     sub-first
-    loop-less
+    (λ c. omega arith)
     loop-again
-    cast-digit-2
-    digit-requires-2
-    array-write-bytes-2
+    (λ c. omega arith)
+    (λ c κs. omega arith)
+    (λ c. omega arith)
     returns)

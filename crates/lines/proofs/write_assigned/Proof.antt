@@ -4,9 +4,6 @@ use borrow.Author.Needs.{needs}
 use Rattle.lines.proofs.write_assigned.Statement.{statement}
 use Rattle.lines.proofs.write_assigned.Tie as tie
 
-write-hex-requires : tie.Need-write-hex-requires
-write-hex-requires c κs = search needs
-
 write-hex-requires-2 : tie.Need-write-hex-requires-2
 unfolding hexByte
 write-hex-requires-2 c κs = search needs
@@ -19,9 +16,6 @@ write-hex-requires-4 : tie.Need-write-hex-requires-4
 unfolding hexByte
 write-hex-requires-4 c κs = search needs
 
-same-length : tie.Need-same-length
-same-length c = search needs
-
 returns : tie.Need-returns
 returns c = writes-then _ _ _ _ (c .before .before .before .before .before .before .before .before .before .before .before .before .before .before .write-hex .ensures) (writes-then _ _ _ _ (c .before .before .before .before .before .before .before .before .before .before .write-hex2 .ensures) (writes-then _ _ _ _ (c .before .before .before .before .before .before .write-hex3 .ensures) (c .before .before .write-hex4 .ensures)))
 
@@ -29,9 +23,9 @@ pub write-assigned-spec : {M : Type 1} → statement M
 write-assigned-spec =
     tie.close
     (tie.spec
-    write-hex-requires
+    (λ c κs. search needs)
     write-hex-requires-2
     write-hex-requires-3
     write-hex-requires-4
-    same-length
+    (λ c. search needs)
     returns)

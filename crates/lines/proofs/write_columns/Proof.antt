@@ -6,17 +6,11 @@ use borrow.Author.Needs.{needs}
 use Rattle.lines.proofs.write_columns.Statement.{statement}
 use Rattle.lines.proofs.write_columns.Tie as tie
 
-write-number-requires : tie.Need-write-number-requires
-write-number-requires c κs = search needs
-
 write-polled-requires : tie.Need-write-polled-requires
 write-polled-requires c κs = omega (arith, number-long (c .before .before .before .before .before .before .args .index))
 
 write-number-requires-2 : tie.Need-write-number-requires-2
 write-number-requires-2 c κs = omega (arith, number-long (c .before .before .before .before .before .before .before .before .before .before .args .index), polled-long (c .before .before .before .before .before .before .before .before .before .before .args .number))
-
-same-length : tie.Need-same-length
-same-length c = search needs
 
 returns : tie.Need-returns
 unfolding columns
@@ -26,8 +20,8 @@ pub write-columns-spec : {M : Type 1} → statement M
 write-columns-spec =
     tie.close
     (tie.spec
-    write-number-requires
+    (λ c κs. search needs)
     write-polled-requires
     write-number-requires-2
-    same-length
+    (λ c. search needs)
     returns)

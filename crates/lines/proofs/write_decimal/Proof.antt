@@ -8,29 +8,8 @@ use borrow.Author.Needs.{needs}
 use Rattle.lines.proofs.write_decimal.Statement.{statement}
 use Rattle.lines.proofs.write_decimal.Tie as tie
 
-digits-of-requires : tie.Need-digits-of-requires
-digits-of-requires c κs = search needs
-
-sub-put : tie.Need-sub-put
-sub-put c = search needs
-
-part-put-start : tie.Need-part-put-start
-part-put-start c = search needs
-
 part-put-end : tie.Need-part-put-end
 part-put-end c = let full : length (c .before .before .before .digits-of .result .bytes) ≡ 20 = search needs in search needs
-
-put-requires : tie.Need-put-requires
-put-requires c κs = search needs
-
-sub-result : tie.Need-sub-result
-sub-result c = search needs
-
-add-result : tie.Need-add-result
-add-result c = search needs
-
-same-length : tie.Need-same-length
-same-length c = search needs
 
 returns : tie.Need-returns
 returns c = let d = c .before .before .before .before .before .before .before .digits-of in
@@ -42,12 +21,12 @@ pub write-decimal-spec : {M : Type 1} → statement M
 write-decimal-spec =
     tie.close
     (tie.spec
-    digits-of-requires
-    sub-put
-    part-put-start
+    (λ c κs. search needs)
+    (λ c. search needs)
+    (λ c. search needs)
     part-put-end
-    put-requires
-    sub-result
-    add-result
-    same-length
+    (λ c κs. search needs)
+    (λ c. search needs)
+    (λ c. search needs)
+    (λ c. search needs)
     returns)

@@ -7,20 +7,11 @@ use borrow.Author.Needs.{needs}
 use Rattle.lines.proofs.write_line.Statement.{statement}
 use Rattle.lines.proofs.write_line.Tie as tie
 
-refusal-of-requires : tie.Need-refusal-of-requires
-refusal-of-requires c κs = search needs
-
-write-columns-requires : tie.Need-write-columns-requires
-write-columns-requires c κs = search needs
-
 write-answer-requires : tie.Need-write-answer-requires
 write-answer-requires c κs = omega (arith, columns-long (c .before .before .before .before .before .before .before .args .index) (c .before .before .before .before .before .before .before .args .number) (c .before .before .before .before .refusal-of .result))
 
 write-byte-requires : tie.Need-write-byte-requires
 write-byte-requires c κs = omega (arith, columns-long (c .before .before .before .before .before .before .before .before .before .before .before .args .index) (c .before .before .before .before .before .before .before .before .before .before .before .args .number) (c .before .before .before .before .before .before .before .before .refusal-of .result), answer-long (told (c .before .before .before .before .before .before .before .before .before .before .before .args .answer)))
-
-same-length : tie.Need-same-length
-same-length c = search needs
 
 returns : tie.Need-returns
 unfolding lineText
@@ -30,9 +21,9 @@ pub write-line-spec : {M : Type 1} → statement M
 write-line-spec =
     tie.close
     (tie.spec
-    refusal-of-requires
-    write-columns-requires
+    (λ c κs. search needs)
+    (λ c κs. search needs)
     write-answer-requires
     write-byte-requires
-    same-length
+    (λ c. search needs)
     returns)

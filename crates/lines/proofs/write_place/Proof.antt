@@ -5,23 +5,11 @@ use borrow.Author.Needs.{needs}
 use Rattle.lines.proofs.write_place.Statement.{statement}
 use Rattle.lines.proofs.write_place.Tie as tie
 
-cast-write-decimal : tie.Need-cast-write-decimal
-cast-write-decimal c = search needs
-
-write-decimal-requires : tie.Need-write-decimal-requires
-write-decimal-requires c κs = search needs
-
 write-byte-requires : tie.Need-write-byte-requires
 write-byte-requires c κs = omega (arith, decimal-long (c .before .before .before .before .before .before .args .place .volume .0))
 
-cast-write-decimal-2 : tie.Need-cast-write-decimal-2
-cast-write-decimal-2 c = search needs
-
 write-decimal-requires-2 : tie.Need-write-decimal-requires-2
 write-decimal-requires-2 c κs = omega (arith, decimal-long (c .before .before .before .before .before .before .before .before .before .before .args .place .volume .0))
-
-same-length : tie.Need-same-length
-same-length c = search needs
 
 returns : tie.Need-returns
 returns c = writes-then _ _ _ _ (c .before .before .before .before .before .before .before .before .before .before .write-decimal .ensures) (writes-then _ _ _ _ (c .before .before .before .before .before .before .write-byte .ensures) (c .before .before .write-decimal2 .ensures))
@@ -30,10 +18,10 @@ pub write-place-spec : {M : Type 1} → statement M
 write-place-spec =
     tie.close
     (tie.spec
-    cast-write-decimal
-    write-decimal-requires
+    (λ c. search needs)
+    (λ c κs. search needs)
     write-byte-requires
-    cast-write-decimal-2
+    (λ c. search needs)
     write-decimal-requires-2
-    same-length
+    (λ c. search needs)
     returns)

@@ -4,19 +4,13 @@ use borrow.Author.Needs.{needs}
 use Rattle.lines.proofs.write_polled.Statement.{statement}
 use Rattle.lines.proofs.write_polled.Tie as tie
 
-write-hex-requires : tie.Need-write-hex-requires
-write-hex-requires c κs = search needs
-
 write-byte-requires : tie.Need-write-byte-requires
 unfolding hexByte
 write-byte-requires c κs = search needs
-
-same-length : tie.Need-same-length
-same-length c = search needs
 
 returns : tie.Need-returns
 unfolding column
 returns c = writes-then _ _ _ _ (c .before .before .before .before .before .before .write-hex .ensures) (c .before .before .write-byte .ensures)
 
 pub write-polled-spec : {M : Type 1} → statement M
-write-polled-spec = tie.close (tie.spec write-hex-requires write-byte-requires same-length returns)
+write-polled-spec = tie.close (tie.spec (λ c κs. search needs) write-byte-requires (λ c. search needs) returns)

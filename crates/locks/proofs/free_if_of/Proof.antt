@@ -9,27 +9,9 @@ use borrow.Author.Needs.{needs}
 use Rattle.locks.proofs.free_if_of.Statement.{statement}
 use Rattle.locks.proofs.free_if_of.Tie as tie
 
-owner-of-requires : tie.Need-owner-of-requires
-owner-of-requires c κs = search needs
-
-mul-put : tie.Need-mul-put
-mul-put c = search needs
-
-slice-aggregate-put : tie.Need-slice-aggregate-put
-slice-aggregate-put c = search needs
-
-put-requires : tie.Need-put-requires
-put-requires c κs = search needs
-
-same-length : tie.Need-same-length
-same-length c = search needs
-
 returns : tie.Need-returns
 unfolding freed ownerAt
 returns c = rw (eq-eqb _ _ (sym (c .before .before .before .before .before .before .owner-of .ensures) ∙ c .before .before .before .before .before .if1 .taken)) (c .before .before .put .ensures)
-
-same-length-2 : tie.Need-same-length-2
-same-length-2 c = search needs
 
 returns-2 : tie.Need-returns-2
 unfolding freed ownerAt
@@ -39,11 +21,11 @@ pub free-if-of-spec : {M : Type 1} → statement M
 free-if-of-spec =
     tie.close
     (tie.spec
-    owner-of-requires
-    mul-put
-    slice-aggregate-put
-    put-requires
-    same-length
+    (λ c κs. search needs)
+    (λ c. search needs)
+    (λ c. search needs)
+    (λ c κs. search needs)
+    (λ c. search needs)
     returns
-    same-length-2
+    (λ c. search needs)
     returns-2)

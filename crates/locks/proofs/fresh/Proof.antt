@@ -12,19 +12,10 @@ use borrow.Author.Needs.{needs}
 use Rattle.locks.proofs.fresh.Statement.{statement}
 use Rattle.locks.proofs.fresh.Tie as tie
 
-slice-aggregate-fill : tie.Need-slice-aggregate-fill
-slice-aggregate-fill c = search needs
-
-fill-requires : tie.Need-fill-requires
-fill-requires c κs = search needs
-
-same-length : tie.Need-same-length
-same-length c = search needs
-
 returns : tie.Need-returns
 unfolding freshLocks
 returns c = let t = now (c .before .before .before .before .before .before .args .table) in
     c .before .before .fill .ensures ∙ ap (λ (l : List ℕ). copies 64 freeRow ++ l) (drop-of-length-le t {i = length (copies 64 freeRow)} (omega (arith, length-copies 64 freeRow))) ∙ append-nil (copies 64 freeRow)
 
 pub fresh-spec : {M : Type 1} → statement M
-fresh-spec = tie.close (tie.spec slice-aggregate-fill fill-requires same-length returns)
+fresh-spec = tie.close (tie.spec (λ c. search needs) (λ c κs. search needs) (λ c. search needs) returns)

@@ -12,51 +12,24 @@ use borrow.Author.Needs.{needs}
 use Rattle.locks.proofs.lock.Statement.{statement}
 use Rattle.locks.proofs.lock.Tie as tie
 
-is-legal-requires : tie.Need-is-legal-requires
-is-legal-requires c κs = search needs
-
 returns : tie.Need-returns
 returns c = lock-illegal _ _ _ (sym (c .before .is-legal .ensures .answer) ∙ not-true _ (c .if1 .taken))
-
-find-string-requires : tie.Need-find-string-requires
-find-string-requires c κs = omega arith
-
-owner-of-requires : tie.Need-owner-of-requires
-owner-of-requires c κs = omega arith
-
-same-length : tie.Need-same-length
-same-length c = search needs
 
 returns-2 : tie.Need-returns-2
 unfolding heldAt isHeld
 returns-2 c = let at = c .before .before .before .before .find-string .ensures in
     lock-own _ _ _ (sym (c .before .before .before .before .before .before .before .is-legal .ensures .answer) ∙ not-false _ (c .before .before .before .before .before .before .if1 .left)) (found-if _ _ (rw at at (c .before .before .before .if2 .taken))) (sym (ap (ownerAt (now (c .before .before .before .before .before .before .before .before .before .args .table))) at) ∙ sym (c .before .owner-of .ensures) ∙ c .if3 .taken)
 
-same-length-2 : tie.Need-same-length-2
-same-length-2 c = search needs
-
 returns-3 : tie.Need-returns-3
 unfolding heldAt isHeld
 returns-3 c = let at = c .before .before .before .before .find-string .ensures in
     lock-other _ _ _ (sym (c .before .before .before .before .before .before .before .is-legal .ensures .answer) ∙ not-false _ (c .before .before .before .before .before .before .if1 .left)) (found-if _ _ (rw at at (c .before .before .before .if2 .taken))) (λ e. c .if3 .left (c .before .owner-of .ensures ∙ ap (ownerAt (now (c .before .before .before .before .before .before .before .before .before .args .table))) at ∙ e))
-
-lowest-free-requires : tie.Need-lowest-free-requires
-lowest-free-requires c κs = search needs
-
-fill-requires : tie.Need-fill-requires
-fill-requires c κs = omega arith
-
-same-length-3 : tie.Need-same-length-3
-same-length-3 c = search needs
 
 returns-4 : tie.Need-returns-4
 unfolding heldAt isHeld lowestFree
 returns-4 c = let a = c .before .before .before .before .before .before .before .before .before .before .before .before .before .args in
     let g = lock-granted (now (a .table)) (a .who) (a .s) (sym (c .before .before .before .before .before .before .before .before .before .before .before .is-legal .ensures .answer) ∙ not-false _ (c .before .before .before .before .before .before .before .before .before .before .if1 .left)) (missing-if _ _ (rw (c .before .before .before .before .before .before .before .before .find-string .ensures) at (c .before .before .before .before .before .before .before .if2 .left))) (found-if _ _ (rw (c .before .before .before .before .before .lowest-free .ensures) at (c .before .before .before .before .if4 .taken))) in
     record { answer = g .answer; left = c .before .before .fill .ensures ∙ ap (λ (k : ℕ). setRow 16 (now (a .table)) k (rowOf (a .who) (a .s))) (c .before .before .before .before .before .lowest-free .ensures) ∙ g .left }
-
-same-length-4 : tie.Need-same-length-4
-same-length-4 c = search needs
 
 returns-5 : tie.Need-returns-5
 unfolding heldAt isHeld lowestFree
@@ -67,17 +40,17 @@ pub lock-spec : {M : Type 1} → statement M
 lock-spec =
     tie.close
     (tie.spec
-    is-legal-requires
+    (λ c κs. search needs)
     returns
-    find-string-requires
-    owner-of-requires
-    same-length
+    (λ c κs. omega arith)
+    (λ c κs. omega arith)
+    (λ c. search needs)
     returns-2
-    same-length-2
+    (λ c. search needs)
     returns-3
-    lowest-free-requires
-    fill-requires
-    same-length-3
+    (λ c κs. search needs)
+    (λ c κs. omega arith)
+    (λ c. search needs)
     returns-4
-    same-length-4
+    (λ c. search needs)
     returns-5)

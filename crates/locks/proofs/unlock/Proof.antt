@@ -12,44 +12,17 @@ use borrow.Author.Needs.{needs}
 use Rattle.locks.proofs.unlock.Statement.{statement}
 use Rattle.locks.proofs.unlock.Tie as tie
 
-is-legal-requires : tie.Need-is-legal-requires
-is-legal-requires c κs = search needs
-
 returns : tie.Need-returns
 returns c = unlock-illegal _ _ _ (sym (c .before .is-legal .ensures .answer) ∙ not-true _ (c .if1 .taken))
-
-find-string-requires : tie.Need-find-string-requires
-find-string-requires c κs = omega arith
-
-same-length : tie.Need-same-length
-same-length c = search needs
 
 returns-2 : tie.Need-returns-2
 unfolding heldAt isHeld
 returns-2 c = unlock-none _ _ _ (sym (c .before .before .before .before .is-legal .ensures .answer) ∙ not-false _ (c .before .before .before .if1 .left)) (missing-if _ _ (rw (c .before .find-string .ensures) at (c .if2 .taken)))
 
-owner-of-requires : tie.Need-owner-of-requires
-owner-of-requires c κs = omega arith
-
-same-length-2 : tie.Need-same-length-2
-same-length-2 c = search needs
-
 returns-3 : tie.Need-returns-3
 unfolding heldAt isHeld
 returns-3 c = let at = c .before .before .before .before .find-string .ensures in
     unlock-other _ _ _ (sym (c .before .before .before .before .before .before .before .is-legal .ensures .answer) ∙ not-false _ (c .before .before .before .before .before .before .if1 .left)) (found-if _ _ (rw at at (c .before .before .before .if2 .left))) (λ e. c .if3 .taken (c .before .owner-of .ensures ∙ ap (ownerAt (now (c .before .before .before .before .before .before .before .before .before .args .table))) at ∙ e))
-
-mul-put : tie.Need-mul-put
-mul-put c = omega arith
-
-slice-aggregate-put : tie.Need-slice-aggregate-put
-slice-aggregate-put c = search needs
-
-put-requires : tie.Need-put-requires
-put-requires c κs = omega arith
-
-same-length-3 : tie.Need-same-length-3
-same-length-3 c = search needs
 
 returns-4 : tie.Need-returns-4
 unfolding heldAt isHeld
@@ -62,16 +35,16 @@ pub unlock-spec : {M : Type 1} → statement M
 unlock-spec =
     tie.close
     (tie.spec
-    is-legal-requires
+    (λ c κs. search needs)
     returns
-    find-string-requires
-    same-length
+    (λ c κs. omega arith)
+    (λ c. search needs)
     returns-2
-    owner-of-requires
-    same-length-2
+    (λ c κs. omega arith)
+    (λ c. search needs)
     returns-3
-    mul-put
-    slice-aggregate-put
-    put-requires
-    same-length-3
+    (λ c. omega arith)
+    (λ c. search needs)
+    (λ c κs. omega arith)
+    (λ c. search needs)
     returns-4)

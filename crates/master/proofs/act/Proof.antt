@@ -25,18 +25,9 @@ use borrow.Author.Needs.{needs}
 use Rattle.master.proofs.act.Statement.{statement}
 use Rattle.master.proofs.act.Tie as tie
 
-first-of-requires : tie.Need-first-of-requires
-first-of-requires c κs = search needs
-
-same-length : tie.Need-same-length
-same-length c = search needs
-
 returns : tie.Need-returns
 returns c = let z = c .before .first-of .ensures in
     serves-refused _ _ _ _ _ (c .before .first-of .result) (early _ _ _ _ _ (c .before .before .before .before .before .before .before .pre .0) (c .before .before .before .before .before .before .before .pre .1) (λ e. c .if1 .taken (z ∙ e)) ∙ sym z) (c .if1 .taken)
-
-read-requires : tie.Need-read-requires
-read-requires c κs = search needs
 
 -- good tables have 64 records
 sized : (t w : List ℕ) → goodTables t w ≡ true → length w ≡ 1152
@@ -65,12 +56,6 @@ perform-requires c κs = let a = c .before .before .before .before .before .befo
           (sym (ap (λ (k : ℕ). eqb k LOGIN) (ap (λ (q : Request). codeOf (q .command)) read ∙ code-kept (now (a .frame)) well)) ∙ h)),
     )
 
-same-length-2 : tie.Need-same-length-2
-same-length-2 c = search needs
-
-same-length-3 : tie.Need-same-length-3
-same-length-3 c = search needs
-
 returns-2 : tie.Need-returns-2
 returns-2 c = let a = c .before .before .before .before .before .before .before .before .before .before .before .before .before .before .before .before .args in
     let z : frameTests (a .number) (now (a .frame)) (now (a .records)) 0 ≡ 0 = sym (c .before .before .before .before .before .before .before .before .before .before .first-of .ensures) ∙ c .before .before .before .before .before .before .before .before .before .if1 .left in
@@ -83,12 +68,12 @@ pub act-spec : {M : Type 1} → statement M
 act-spec =
     tie.close
     (tie.spec
-    first-of-requires
-    same-length
+    (λ c κs. search needs)
+    (λ c. search needs)
     returns
-    read-requires
+    (λ c κs. search needs)
     cast-perform
     perform-requires
-    same-length-2
-    same-length-3
+    (λ c. search needs)
+    (λ c. search needs)
     returns-2)

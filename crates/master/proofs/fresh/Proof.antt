@@ -4,7 +4,6 @@ use borrow.Author.Tests.{eq-eqb, ne-eqb}
 use borrow.Author.Needs.{needs}
 use Rattle.master.proofs.fresh.Statement.{statement}
 use Rattle.master.proofs.fresh.Tie as tie
-use Rattle.who.proofs.fresh.Reads as fresh-reads′
 
 returns : tie.Need-returns
 unfolding told freshTold sized
@@ -15,18 +14,6 @@ unfolding told freshTold sized
 returns-2 c = let a = eq-eqb _ _ (c .before .if1 .left) in
     let b = ne-eqb _ _ (c .if2 .taken) in
     record { answer = rw (a, b); locks = rw (a, b); records = rw (a, b) }
-
-fresh-requires : tie.Need-fresh-requires
-fresh-requires c κs = search needs
-
-fresh-requires-2 : tie.Need-fresh-requires-2
-fresh-requires-2 c κs = search needs
-
-same-length : tie.Need-same-length
-same-length c = search needs
-
-same-length-2 : tie.Need-same-length-2
-same-length-2 c = search needs
 
 returns-3 : tie.Need-returns-3
 unfolding told freshTold sized
@@ -40,8 +27,8 @@ fresh-spec =
     (tie.spec
     returns
     returns-2
-    fresh-requires
-    fresh-requires-2
-    same-length
-    same-length-2
+    (λ c κs. search needs)
+    (λ c κs. search needs)
+    (λ c. search needs)
+    (λ c. search needs)
     returns-3)

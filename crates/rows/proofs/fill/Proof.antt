@@ -24,12 +24,6 @@ mul-put c = omega (arith, row-end (length (now (c .before .before .before .befor
 put-requires : tie.Need-put-requires Inv-loop μ-loop
 put-requires c κs = omega (arith, row-end (length (now (c .before .before .before .before .before .args .r))) (c .before .loop-test .taken))
 
-add-i : tie.Need-add-i Inv-loop μ-loop
-add-i c = omega arith
-
-loop-less : tie.Need-loop-less Inv-loop μ-loop
-loop-less c = omega arith
-
 loop-again : tie.Need-loop-again Inv-loop μ-loop
 loop-again c = let a = c .before .before .before .before .before .before .before .before .args in
     (omega arith, c .before .before .put .ensures ∙ rw (c .before .before .before .before .before .loop .inv .1) (copies-more (now (a .s)) (now (a .r)) _ (a .n) (c .before .before .before .before .loop-test .taken) (c .before .before .before .before .before .before .before .before .pre)), omega (arith, c .before .before .put .kept .0))
@@ -50,8 +44,8 @@ fill-spec =
     loop-holds
     mul-put
     put-requires
-    add-i
-    loop-less
+    (λ c. omega arith)
+    (λ c. omega arith)
     loop-again
     same-length
     returns)

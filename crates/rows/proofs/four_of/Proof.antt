@@ -8,12 +8,6 @@ use borrow.Author.Needs.{needs}
 use Rattle.rows.proofs.four_of.Statement.{statement}
 use Rattle.rows.proofs.four_of.Tie as tie
 
-part-requires : tie.Need-part-requires
-part-requires c κs = search needs
-
-slice-aggregate-copy : tie.Need-slice-aggregate-copy
-slice-aggregate-copy c = search needs
-
 copy-requires : tie.Need-copy-requires
 copy-requires c κs = omega (arith, ap length (c .before .part .ensures), length-part (now (c .before .before .before .args .s)) (c .before .before .before .args .at) 4 (c .before .before .before .pre))
 
@@ -21,4 +15,4 @@ returns : tie.Need-returns
 returns c = c .before .copy .ensures .1 ∙ copied-part (now (c .before .before .before .before .before .args .s)) (c .before .before .before .before .before .args .at) 4 _ _ (c .before .before .before .before .before .pre) (c .before .before .before .part .ensures) (lit≤ tt)
 
 pub four-of-spec : {M : Type 1} → statement M
-four-of-spec = tie.close (tie.spec part-requires slice-aggregate-copy copy-requires returns)
+four-of-spec = tie.close (tie.spec (λ c κs. search needs) (λ c. search needs) copy-requires returns)

@@ -12,21 +12,6 @@ Inv-loop site locks₀ records₀ input₀ output₀ kept₀ index₀ turns₀ l
 abbrev μ-loop : tie.MeasureT-loop
 μ-loop site locks₀ records₀ input₀ output₀ kept₀ index₀ turns₀ locks records input output kept index turns = 1125899906842624 - turns
 
-buffer-requires : tie.Need-buffer-requires Inv-loop μ-loop
-buffer-requires c κs = search needs
-
-room-for-lines-requires : tie.Need-room-for-lines-requires Inv-loop μ-loop
-room-for-lines-requires c κs = search needs
-
-slice-aggregate-fresh : tie.Need-slice-aggregate-fresh Inv-loop μ-loop
-slice-aggregate-fresh c = search needs
-
-slice-aggregate-fresh-2 : tie.Need-slice-aggregate-fresh-2 Inv-loop μ-loop
-slice-aggregate-fresh-2 c = search needs
-
-fresh-requires : tie.Need-fresh-requires Inv-loop μ-loop
-fresh-requires c κs = search needs
-
 loop-holds : tie.Need-loop-holds Inv-loop μ-loop
 loop-holds c = (omega (arith, c .before .before .fresh .kept), omega (arith, c .before .before .fresh .kept), omega (arith, c .before .before .before .before .before .before .buffer .ensures), omega (arith, c .before .before .before .before .before .room-for-lines .ensures), omega arith, omega arith, omega arith)
 
@@ -45,23 +30,11 @@ slice-aggregate-take-turn-4 c = sym (c .before .before .before .before .before .
 take-turn-requires : tie.Need-take-turn-requires Inv-loop μ-loop
 take-turn-requires c κs = omega (arith, c .before .before .before .before .before .loop .inv, c .before .before .before .before .loop-test)
 
-returns : tie.Need-returns Inv-loop μ-loop
-returns c = tt
-
-add-turns : tie.Need-add-turns Inv-loop μ-loop
-add-turns c = omega arith
-
-loop-less : tie.Need-loop-less Inv-loop μ-loop
-loop-less c = omega arith
-
 loop-again : tie.Need-loop-again Inv-loop μ-loop
 loop-again c = let i = c .before .before .before .before .before .before .before .before .before .before .before .before .loop .inv in
     let k = c .before .before .before .before .before .before .take-turn .kept in
     let e = c .before .before .before .before .before .before .take-turn .ensures in
     omega (arith, i, k, e)
-
-returns-2 : tie.Need-returns-2 Inv-loop μ-loop
-returns-2 c = tt
 
 pub play-records-spec : {M : Type 1} → statement M
 play-records-spec =
@@ -69,19 +42,19 @@ play-records-spec =
     (tie.spec
     Inv-loop
     μ-loop
-    buffer-requires
-    room-for-lines-requires
-    slice-aggregate-fresh
-    slice-aggregate-fresh-2
-    fresh-requires
+    (λ c κs. search needs)
+    (λ c κs. search needs)
+    (λ c. search needs)
+    (λ c. search needs)
+    (λ c κs. search needs)
     loop-holds
     slice-aggregate-take-turn
     slice-aggregate-take-turn-2
     slice-aggregate-take-turn-3
     slice-aggregate-take-turn-4
     take-turn-requires
-    returns
-    add-turns
-    loop-less
+    (λ c. tt)
+    (λ c. omega arith)
+    (λ c. omega arith)
     loop-again
-    returns-2)
+    (λ c. tt))

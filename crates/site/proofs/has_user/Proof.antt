@@ -16,9 +16,6 @@ use Rattle.site.proofs.has_user.Tie as tie
 users-requires : tie.Need-users-requires
 users-requires c κs = omega (arith, site-header (now (c .before .args .file)) (c .before .pre) .whole)
 
-slice-aggregate-find-name : tie.Need-slice-aggregate-find-name
-slice-aggregate-find-name c = search needs
-
 find-name-requires : tie.Need-find-name-requires
 find-name-requires c κs = (omega (arith, c .before .users .ensures .0, site-header (now (c .before .before .before .args .file)) (c .before .before .before .pre) .whole), lit≤ tt, search needs)
 
@@ -28,9 +25,6 @@ returns c = let a = c .before .before .before .before .before .args in
     let e = c .before .find-name .ensures ∙ ap (first (userNamed (now (a .file)) (a .t2))) n in
     let miss : users (now (a .file)) ≤ first (userNamed (now (a .file)) (a .t2)) (users (now (a .file))) = omega (arith, e, n, c .if1 .taken) in
     record { answer = sym (no-user (now (a .file)) (a .t2) (a .t3) (missing-if _ _ miss)) }
-
-slice-aggregate-password-is : tie.Need-slice-aggregate-password-is
-slice-aggregate-password-is c = search needs
 
 password-is-requires : tie.Need-password-is-requires
 password-is-requires c κs = omega (arith, c .before .before .before .before .users .ensures .0, c .before .if1 .left, site-header (now (c .before .before .before .before .before .before .args .file)) (c .before .before .before .before .before .before .pre) .whole)
@@ -47,9 +41,9 @@ has-user-spec =
     tie.close
     (tie.spec
     users-requires
-    slice-aggregate-find-name
+    (λ c. search needs)
     find-name-requires
     returns
-    slice-aggregate-password-is
+    (λ c. search needs)
     password-is-requires
     returns-2)

@@ -8,8 +8,5 @@ use Rattle.site.proofs.partition_count.Tie as tie
 partitions-requires : tie.Need-partitions-requires
 partitions-requires c κs = omega (arith, site-header (now (c .before .args .file)) (c .before .pre) .whole)
 
-returns : tie.Need-returns
-returns c = search needs
-
 pub partition-count-spec : {M : Type 1} → statement M
-partition-count-spec = tie.close (tie.spec partitions-requires returns)
+partition-count-spec = tie.close (tie.spec partitions-requires (λ c. search needs))

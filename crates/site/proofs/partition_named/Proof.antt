@@ -17,9 +17,6 @@ partitions-requires c κs = omega (arith, site-header (now (c .before .args .fil
 partitions-from-requires : tie.Need-partitions-from-requires
 partitions-from-requires c κs = omega (arith, site-header (now (c .before .before .args .file)) (c .before .before .pre) .whole)
 
-slice-aggregate-find-name : tie.Need-slice-aggregate-find-name
-slice-aggregate-find-name c = search needs
-
 find-name-requires : tie.Need-find-name-requires
 find-name-requires c κs = (omega (arith, c .before .partitions-from .ensures, c .before .before .partitions .ensures .0, site-header (now (c .before .before .before .before .args .file)) (c .before .before .before .before .pre) .whole), lit≤ tt, search needs)
 
@@ -34,6 +31,6 @@ partition-named-spec =
     (tie.spec
     partitions-requires
     partitions-from-requires
-    slice-aggregate-find-name
+    (λ c. search needs)
     find-name-requires
     returns)

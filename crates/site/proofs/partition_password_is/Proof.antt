@@ -12,9 +12,6 @@ use Rattle.site.proofs.partition_password_is.Tie as tie
 partitions-from-requires : tie.Need-partitions-from-requires
 partitions-from-requires c κs = omega (arith, site-header (now (c .before .args .file)) (c .before .pre .0) .whole)
 
-slice-aggregate-password-is : tie.Need-slice-aggregate-password-is
-slice-aggregate-password-is c = search needs
-
 password-is-requires : tie.Need-password-is-requires
 password-is-requires c κs = omega (arith, c .before .partitions-from .ensures, site-header (now (c .before .before .before .args .file)) (c .before .before .before .pre .0) .whole)
 
@@ -24,4 +21,4 @@ returns c = record { answer = c .password-is .ensures ∙ ap (λ (k : ℕ). same
 pub partition-password-is-spec : {M : Type 1} → statement M
 partition-password-is-spec =
     tie.close
-    (tie.spec partitions-from-requires slice-aggregate-password-is password-is-requires returns)
+    (tie.spec partitions-from-requires (λ c. search needs) password-is-requires returns)

@@ -11,8 +11,5 @@ partitions-from-requires c κs = omega (arith, site-header (now (c .before .args
 row-of-requires : tie.Need-row-of-requires
 row-of-requires c κs = (c .partitions-from .ensures, omega (arith, c .partitions-from .ensures, site-header (now (c .before .before .args .file)) (c .before .before .pre .0) .whole))
 
-returns : tie.Need-returns
-returns c = search needs
-
 pub partition-row-spec : {M : Type 1} → statement M
-partition-row-spec = tie.close (tie.spec partitions-from-requires row-of-requires returns)
+partition-row-spec = tie.close (tie.spec partitions-from-requires row-of-requires (λ c. search needs))

@@ -5,12 +5,6 @@ use borrow.Author.Needs.{needs}
 use Rattle.site.proofs.place.Statement.{statement}
 use Rattle.site.proofs.place.Tie as tie
 
-is-good-requires : tie.Need-is-good-requires
-is-good-requires c κs = search needs
-
-refused-requires : tie.Need-refused-requires
-refused-requires c κs = search needs
-
 returns : tie.Need-returns
 unfolding placedBy
 returns c = record { answer = rw (sym (c .before .before .is-good .ensures .answer) ∙ not-true _ (c .before .if1 .taken)) (c .refused .ensures) }
@@ -24,4 +18,4 @@ returns-2 c = record { answer = rw (sym (c .before .before .is-good .ensures .an
 
 pub place-spec : {M : Type 1} → statement M
 place-spec =
-    tie.close (tie.spec is-good-requires refused-requires returns place-in-requires returns-2)
+    tie.close (tie.spec (λ c κs. search needs) (λ c κs. search needs) returns place-in-requires returns-2)

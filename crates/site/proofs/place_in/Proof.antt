@@ -11,12 +11,6 @@ use borrow.Author.Needs.{needs}
 use Rattle.site.proofs.place_in.Statement.{statement}
 use Rattle.site.proofs.place_in.Tie as tie
 
-partition-numbered-requires : tie.Need-partition-numbered-requires
-partition-numbered-requires c κs = search needs
-
-partition-count-requires : tie.Need-partition-count-requires
-partition-count-requires c κs = search needs
-
 partition-row-requires : tie.Need-partition-row-requires
 partition-row-requires c κs = (c .before .before .before .before .before .before .pre, rw (c .before .partition-count .ensures .answer) at (c .if1 .taken))
 
@@ -31,9 +25,6 @@ returns c = let a = c .before .before .before .before .before .before .before .b
     let below : indexOfNumber (now (a .file)) (a .address .volume) (a .address .partition) < partitions (now (a .file)) = omega (arith, i, c .before .before .before .partition-count .ensures .answer, c .before .before .if1 .taken) in
     record { answer = rw (lt-ltb _ _ below) (c .place-on .ensures ∙ ap (λ r. placedOn r (a .address)) (c .before .partition-row .ensures .answer ∙ ap (partitionRow (now (a .file))) i)) }
 
-refused-requires : tie.Need-refused-requires
-refused-requires c κs = search needs
-
 returns-2 : tie.Need-returns-2
 unfolding placedIn
 returns-2 c = let a = c .before .before .before .before .before .before .before .args in
@@ -45,10 +36,10 @@ pub place-in-spec : {M : Type 1} → statement M
 place-in-spec =
     tie.close
     (tie.spec
-    partition-numbered-requires
-    partition-count-requires
+    (λ c κs. search needs)
+    (λ c κs. search needs)
     partition-row-requires
     place-on-requires
     returns
-    refused-requires
+    (λ c κs. search needs)
     returns-2)

@@ -11,18 +11,9 @@ use Rattle.site.proofs.place_on.Tie as tie
 is-inside-requires : tie.Need-is-inside-requires
 is-inside-requires c κs = let r = ranged-is _ (c .pre) in (r .least, r .most)
 
-refused-requires : tie.Need-refused-requires
-refused-requires c κs = search needs
-
 returns : tie.Need-returns
 unfolding placedOn inside
 returns c = rw (sym (c .before .before .is-inside .ensures) ∙ not-true _ (c .before .if1 .taken)) (c .refused .ensures)
-
-cast-track : tie.Need-cast-track
-cast-track c = search needs
-
-cast-sector : tie.Need-cast-sector
-cast-sector c = search needs
 
 mul-t9 : tie.Need-mul-t9
 unfolding inside
@@ -49,10 +40,10 @@ place-on-spec =
     tie.close
     (tie.spec
     is-inside-requires
-    refused-requires
+    (λ c κs. search needs)
     returns
-    cast-track
-    cast-sector
+    (λ c. search needs)
+    (λ c. search needs)
     mul-t9
     add-t10
     add-t11

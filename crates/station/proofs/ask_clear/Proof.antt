@@ -14,31 +14,16 @@ use borrow.Author.Needs.{needs}
 use Rattle.station.proofs.ask_clear.Statement.{statement}
 use Rattle.station.proofs.ask_clear.Tie as tie
 
-ask-refusal-requires : tie.Need-ask-refusal-requires
-ask-refusal-requires c κs = search needs
-
-same-length : tie.Need-same-length
-same-length c = search needs
-
 returns : tie.Need-returns
 returns c = ask-refused _ _ (c .before .ask-refusal .ensures) (c .if1 .taken)
-
-slice-aggregate-fill : tie.Need-slice-aggregate-fill
-slice-aggregate-fill c = search needs
 
 fill-requires : tie.Need-fill-requires
 fill-requires c κs = let st = now (c .before .before .before .before .before .before .args .state) in
     omega (arith, state-is st (askable st (sym (c .before .before .before .ask-refusal .ensures) ∙ c .before .before .if1 .left) .0) .sized)
 
-slice-aggregate-put : tie.Need-slice-aggregate-put
-slice-aggregate-put c = search needs
-
 put-requires : tie.Need-put-requires
 put-requires c κs = let st = now (c .before .before .before .before .before .before .before .before .before .before .before .args .state) in
     omega (arith, c .before .before .before .before .fill .kept .0, state-is st (askable st (sym (c .before .before .before .before .before .before .before .before .ask-refusal .ensures) ∙ c .before .before .before .before .before .before .before .if1 .left) .0) .sized)
-
-same-length-2 : tie.Need-same-length-2
-same-length-2 c = search needs
 
 returns-2 : tie.Need-returns-2
 unfolding afterClear
@@ -52,12 +37,12 @@ pub ask-clear-spec : {M : Type 1} → statement M
 ask-clear-spec =
     tie.close
     (tie.spec
-    ask-refusal-requires
-    same-length
+    (λ c κs. search needs)
+    (λ c. search needs)
     returns
-    slice-aggregate-fill
+    (λ c. search needs)
     fill-requires
-    slice-aggregate-put
+    (λ c. search needs)
     put-requires
-    same-length-2
+    (λ c. search needs)
     returns-2)

@@ -7,21 +7,12 @@ use borrow.Author.Needs.{needs}
 use Rattle.station.proofs.ask_lock.Statement.{statement}
 use Rattle.station.proofs.ask_lock.Tie as tie
 
-ask-refusal-requires : tie.Need-ask-refusal-requires
-ask-refusal-requires c κs = search needs
-
-same-length : tie.Need-same-length
-same-length c = search needs
-
 returns : tie.Need-returns
 returns c = ask-refused _ _ (c .before .ask-refusal .ensures) (c .if1 .taken)
 
 await-string-requires : tie.Need-await-string-requires
 await-string-requires c κs = let st = now (c .before .before .before .before .before .args .state) in
     state-is st (askable st (sym (c .before .before .ask-refusal .ensures) ∙ c .before .if1 .left) .0) .sized
-
-same-length-2 : tie.Need-same-length-2
-same-length-2 c = search needs
 
 returns-2 : tie.Need-returns-2
 unfolding afterLock
@@ -33,9 +24,9 @@ pub ask-lock-spec : {M : Type 1} → statement M
 ask-lock-spec =
     tie.close
     (tie.spec
-    ask-refusal-requires
-    same-length
+    (λ c κs. search needs)
+    (λ c. search needs)
     returns
     await-string-requires
-    same-length-2
+    (λ c. search needs)
     returns-2)

@@ -8,9 +8,6 @@ use borrow.Author.Needs.{needs}
 use Rattle.station.proofs.ask_refusal.Statement.{statement}
 use Rattle.station.proofs.ask_refusal.Tie as tie
 
-is-good-requires : tie.Need-is-good-requires
-is-good-requires c κs = search needs
-
 returns : tie.Need-returns
 unfolding askRefusal
 returns c = rw (sym (c .before .is-good .ensures .answer) ∙ not-true _ (c .if1 .taken))
@@ -28,4 +25,4 @@ returns-3 c = rw (sym (c .before .before .before .is-good .ensures .answer) ∙ 
 
 pub ask-refusal-spec : {M : Type 1} → statement M
 ask-refusal-spec =
-    tie.close (tie.spec is-good-requires returns shared-slice-read-if2 returns-2 returns-3)
+    tie.close (tie.spec (λ c κs. search needs) returns shared-slice-read-if2 returns-2 returns-3)

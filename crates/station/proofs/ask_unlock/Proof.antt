@@ -12,12 +12,6 @@ use borrow.Author.Needs.{needs}
 use Rattle.station.proofs.ask_unlock.Statement.{statement}
 use Rattle.station.proofs.ask_unlock.Tie as tie
 
-ask-refusal-requires : tie.Need-ask-refusal-requires
-ask-refusal-requires c κs = search needs
-
-same-length : tie.Need-same-length
-same-length c = search needs
-
 returns : tie.Need-returns
 returns c = ask-refused _ _ (c .before .ask-refusal .ensures) (c .if1 .taken)
 
@@ -40,9 +34,6 @@ unfolding listOf
 await-string-requires c κs = let st = now (c .before .before .before .before .before .before .before .before .before .args .state) in
     lent-long st (c .before .before .before .strike .last .0) (state-is st (askable st (sym (c .before .before .before .before .before .before .ask-refusal .ensures) ∙ c .before .before .before .before .before .if1 .left) .0) .sized) (c .before .before .before .strike .kept .0)
 
-same-length-2 : tie.Need-same-length-2
-same-length-2 c = search needs
-
 returns-2 : tie.Need-returns-2
 unfolding afterUnlock listOf
 returns-2 c = let a = c .before .before .before .before .before .before .before .before .before .before .before .before .args in
@@ -56,12 +47,12 @@ pub ask-unlock-spec : {M : Type 1} → statement M
 ask-unlock-spec =
     tie.close
     (tie.spec
-    ask-refusal-requires
-    same-length
+    (λ c κs. search needs)
+    (λ c. search needs)
     returns
     slice-relend-prefix-strike
     slice-aggregate-strike
     strike-requires
     await-string-requires
-    same-length-2
+    (λ c. search needs)
     returns-2)

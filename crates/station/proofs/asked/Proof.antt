@@ -7,16 +7,10 @@ use borrow.Author.Needs.{needs}
 use Rattle.station.proofs.asked.Statement.{statement}
 use Rattle.station.proofs.asked.Tie as tie
 
-add-string-at : tie.Need-add-string-at
-add-string-at c = search needs
-
-string-at-requires : tie.Need-string-at-requires
-string-at-requires c κs = search needs
-
 returns : tie.Need-returns
 unfolding waitOf askedIn stringAt
 returns c = let st = now (c .before .before .args .state) in
     rw (getD-drop listLength st 1 0, part-drop st listLength 2 13) (c .string-at .ensures)
 
 pub asked-spec : {M : Type 1} → statement M
-asked-spec = tie.close (tie.spec add-string-at string-at-requires returns)
+asked-spec = tie.close (tie.spec (λ c. search needs) (λ c κs. search needs) returns)

@@ -11,15 +11,6 @@ use Rattle.station.proofs.fresh.Tie as tie
 returns : tie.Need-returns
 returns c = let other = ne-eqb _ _ (c .if1 .taken) in record { answer = rw other; left = rw other }
 
-slice-aggregate-fill : tie.Need-slice-aggregate-fill
-slice-aggregate-fill c = search needs
-
-fill-requires : tie.Need-fill-requires
-fill-requires c κs = search needs
-
-same-length : tie.Need-same-length
-same-length c = search needs
-
 returns-2 : tie.Need-returns-2
 unfolding freshState
 returns-2 c = let sized = c .before .before .before .before .before .if1 .left in
@@ -29,4 +20,4 @@ returns-2 c = let sized = c .before .before .before .before .before .if1 .left i
     }
 
 pub fresh-spec : {M : Type 1} → statement M
-fresh-spec = tie.close (tie.spec returns slice-aggregate-fill fill-requires same-length returns-2)
+fresh-spec = tie.close (tie.spec returns (λ c. search needs) (λ c κs. search needs) (λ c. search needs) returns-2)

@@ -6,21 +6,12 @@ use borrow.Author.Needs.{needs}
 use Rattle.station.proofs.is_bad_grant.Statement.{statement}
 use Rattle.station.proofs.is_bad_grant.Tie as tie
 
-is-grant-requires : tie.Need-is-grant-requires
-is-grant-requires c κs = search needs
-
 returns : tie.Need-returns
 returns c = rw (sym (c .before .is-grant .ensures) ∙ not-true _ (c .if1 .taken))
-
-is-legal-requires : tie.Need-is-legal-requires
-is-legal-requires c κs = search needs
 
 returns-2 : tie.Need-returns-2
 unfolding carriesLength
 returns-2 c = rw (sym (c .before .before .before .is-grant .ensures) ∙ not-false _ (c .before .before .if1 .left), eq-eqb _ _ (c .before .if2 .taken)) (ap not (c .is-legal .ensures .answer))
-
-is-legal-requires-2 : tie.Need-is-legal-requires-2
-is-legal-requires-2 c κs = search needs
 
 returns-3 : tie.Need-returns-3
 unfolding carriesLength
@@ -34,10 +25,10 @@ pub is-bad-grant-spec : {M : Type 1} → statement M
 is-bad-grant-spec =
     tie.close
     (tie.spec
-    is-grant-requires
+    (λ c κs. search needs)
     returns
-    is-legal-requires
+    (λ c κs. search needs)
     returns-2
-    is-legal-requires-2
+    (λ c κs. search needs)
     returns-3
     returns-4)

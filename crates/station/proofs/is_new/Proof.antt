@@ -10,18 +10,12 @@ use Rattle.station.proofs.is_new.Tie as tie
 returns : tie.Need-returns
 returns c = rw (ne-eqb _ _ (c .if1 .taken))
 
-is-grant-requires : tie.Need-is-grant-requires
-is-grant-requires c κs = search needs
-
 returns-2 : tie.Need-returns-2
 returns-2 c = rw (eq-eqb _ _ (c .before .before .if1 .left), sym (c .before .is-grant .ensures) ∙ not-true _ (c .if2 .taken))
-
-find-requires : tie.Need-find-requires
-find-requires c κs = search needs
 
 returns-3 : tie.Need-returns-3
 unfolding isListed
 returns-3 c = rw (eq-eqb _ _ (c .before .before .before .if1 .left), sym (c .before .before .is-grant .ensures) ∙ not-false _ (c .before .if2 .left)) (ap (leb _) (c .find .ensures) ∙ first-misses _ _)
 
 pub is-new-spec : {M : Type 1} → statement M
-is-new-spec = tie.close (tie.spec returns is-grant-requires returns-2 find-requires returns-3)
+is-new-spec = tie.close (tie.spec returns (λ c κs. search needs) returns-2 (λ c κs. search needs) returns-3)

@@ -13,9 +13,6 @@ use borrow.Author.Needs.{needs}
 use Rattle.station.proofs.send.Statement.{statement}
 use Rattle.station.proofs.send.Tie as tie
 
-is-good-requires : tie.Need-is-good-requires
-is-good-requires c κs = search needs
-
 returns : tie.Need-returns
 returns c = send-bad-state _ _ (sym (c .before .is-good .ensures .answer) ∙ not-true _ (c .if1 .taken))
 
@@ -25,14 +22,8 @@ shared-slice-read-code c = omega (arith, state-is (now (c .before .before .befor
 returns-2 : tie.Need-returns-2
 returns-2 c = send-none _ _ (sym (c .before .before .before .is-good .ensures .answer) ∙ not-false _ (c .before .before .if1 .left)) (code-at (now (c .before .before .before .before .before .before .args .state)) ∙ c .if2 .taken)
 
-command-of-requires : tie.Need-command-of-requires
-command-of-requires c κs = search needs
-
 asked-requires : tie.Need-asked-requires
 asked-requires c κs = state-is (now (c .before .before .before .before .before .before .before .args .state)) (sym (c .before .before .before .before .is-good .ensures .answer) ∙ not-false _ (c .before .before .before .if1 .left)) .sized
-
-write-requires : tie.Need-write-requires
-write-requires c κs = search needs
 
 -- what was written is what the station sends
 done : (c : tie.After-struct-known)
@@ -49,9 +40,6 @@ done c = let a = c .before .before .before .before .before .before .before .befo
 cast-t11 : tie.Need-cast-t11
 cast-t11 c = record { fits = subst (λ (s : Sent). s .length < 256) (sym (done c .answer)) (sent-short _ _) }
 
-same-length : tie.Need-same-length
-same-length c = search needs
-
 returns-3 : tie.Need-returns-3
 returns-3 c = done c
 
@@ -59,13 +47,13 @@ pub send-spec : {M : Type 1} → statement M
 send-spec =
     tie.close
     (tie.spec
-    is-good-requires
+    (λ c κs. search needs)
     returns
     shared-slice-read-code
     returns-2
-    command-of-requires
+    (λ c κs. search needs)
     asked-requires
-    write-requires
+    (λ c κs. search needs)
     cast-t11
-    same-length
+    (λ c. search needs)
     returns-3)

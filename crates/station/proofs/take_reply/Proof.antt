@@ -44,35 +44,17 @@ unfolding adds listOf
 adds-is c =
     rw (code-at (now (c .before .before .before .before .before .before .before .before .before .before .before .before .before .args .state)), ← c .before .before .before .before .asked .ensures) (c .is-new .ensures)
 
-is-good-requires : tie.Need-is-good-requires
-is-good-requires c κs = search needs
-
-same-length : tie.Need-same-length
-same-length c = search needs
-
 returns : tie.Need-returns
 returns c = reply-bad-state _ _ (sym (c .before .is-good .ensures .answer) ∙ not-true _ (c .if1 .taken))
 
 slice-read-code : tie.Need-slice-read-code
 slice-read-code c = omega (arith, sized (c .before))
 
-is-listed-reply-requires : tie.Need-is-listed-reply-requires
-is-listed-reply-requires c κs = search needs
-
-same-length-2 : tie.Need-same-length-2
-same-length-2 c = search needs
-
 returns-2 : tie.Need-returns-2
 returns-2 c = reply-unlisted _ _ (good (c .before .before .before)) (rw (code-at (now (c .before .before .before .before .before .before .before .args .state))) (sym (c .before .is-listed-reply .ensures) ∙ not-true _ (c .if2 .taken)))
 
 asked-requires : tie.Need-asked-requires
 asked-requires c κs = sized (c .before .before .before .before)
-
-is-bad-grant-requires : tie.Need-is-bad-grant-requires
-is-bad-grant-requires c κs = search needs
-
-same-length-3 : tie.Need-same-length-3
-same-length-3 c = search needs
 
 returns-3 : tie.Need-returns-3
 returns-3 c = reply-bad-grant _ _ (good (c .before .before .before .before .before .before .before)) (listed-reply (c .before .before .before .before)) (rw (code-at (now (c .before .before .before .before .before .before .before .before .before .before .before .args .state)), ← c .before .before .asked .ensures) (sym (c .before .is-bad-grant .ensures) ∙ c .if3 .taken))
@@ -83,14 +65,8 @@ slice-reshare-prefix-is-new c = omega (arith, sized (c .before .before .before .
 slice-aggregate-is-new : tie.Need-slice-aggregate-is-new
 slice-aggregate-is-new c = sym (list-sized (c .before .before .before .before .before .before .before .before))
 
-is-new-requires : tie.Need-is-new-requires
-is-new-requires c κs = search needs
-
 end-wait-requires : tie.Need-end-wait-requires
 end-wait-requires c κs = sized (c .before .before .before .before .before .before .before .before .before .before .before)
-
-same-length-4 : tie.Need-same-length-4
-same-length-4 c = search needs
 
 returns-4 : tie.Need-returns-4
 returns-4 c = let g = reply-adds-none _ _ (good (c .before .before .before .before .before .before .before .before .before .before .before .before .before .before)) (listed-reply (c .before .before .before .before .before .before .before .before .before .before .before)) (no-bad-grant (c .before .before .before .before .before .before .before)) (sym (adds-is (c .before .before .before .before .before)) ∙ not-true _ (c .before .before .before .before .if4 .taken)) in
@@ -104,9 +80,6 @@ slice-aggregate-count c = sym (list-sized (c .before .before .before .before .be
 
 count-requires : tie.Need-count-requires
 count-requires c κs = omega (arith, list-sized (c .before .before .before .before .before .before .before .before .before .before .before))
-
-same-length-5 : tie.Need-same-length-5
-same-length-5 c = search needs
 
 returns-5 : tie.Need-returns-5
 unfolding listed listOf
@@ -127,9 +100,6 @@ end-wait-requires-2 : tie.Need-end-wait-requires-2
 unfolding listOf
 end-wait-requires-2 c κs = lent-long (now (c .before .before .before .before .before .before .before .before .before .before .before .before .before .before .before .before .before .before .before .before .before .before .args .state)) (c .before .before .before .put .last .0) (sized (c .before .before .before .before .before .before .before .before .before .before .before .before .before .before .before .before .before .before)) (c .before .before .before .put .kept .0)
 
-same-length-6 : tie.Need-same-length-6
-same-length-6 c = search needs
-
 returns-6 : tie.Need-returns-6
 unfolding listed listOf added
 returns-6 c = let st = now (c .before .before .before .before .before .before .before .before .before .before .before .before .before .before .before .before .before .before .before .before .before .before .before .before .before .args .state) in
@@ -144,31 +114,31 @@ pub take-reply-spec : {M : Type 1} → statement M
 take-reply-spec =
     tie.close
     (tie.spec
-    is-good-requires
-    same-length
+    (λ c κs. search needs)
+    (λ c. search needs)
     returns
     slice-read-code
-    is-listed-reply-requires
-    same-length-2
+    (λ c κs. search needs)
+    (λ c. search needs)
     returns-2
     asked-requires
-    is-bad-grant-requires
-    same-length-3
+    (λ c κs. search needs)
+    (λ c. search needs)
     returns-3
     slice-reshare-prefix-is-new
     slice-aggregate-is-new
-    is-new-requires
+    (λ c κs. search needs)
     end-wait-requires
-    same-length-4
+    (λ c. search needs)
     returns-4
     slice-reshare-prefix-count
     slice-aggregate-count
     count-requires
-    same-length-5
+    (λ c. search needs)
     returns-5
     slice-relend-prefix-put
     slice-aggregate-put
     put-requires
     end-wait-requires-2
-    same-length-6
+    (λ c. search needs)
     returns-6)

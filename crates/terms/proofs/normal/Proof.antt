@@ -12,12 +12,6 @@ use borrow.Author.Needs.{needs}
 use Rattle.terms.proofs.normal.Statement.{statement}
 use Rattle.terms.proofs.normal.Tie as tie
 
-used-requires : tie.Need-used-requires
-used-requires c κs = search needs
-
-slice-aggregate-put : tie.Need-slice-aggregate-put
-slice-aggregate-put c = search needs
-
 array-share-prefix-from : tie.Need-array-share-prefix-from
 array-share-prefix-from c = let full : length (c .before .before .before .args .s .bytes) ≡ 13 = search needs in omega (arith, c .before .before .used .ensures)
 
@@ -37,8 +31,8 @@ pub normal-spec : {M : Type 1} → statement M
 normal-spec =
     tie.close
     (tie.spec
-    used-requires
-    slice-aggregate-put
+    (λ c κs. search needs)
+    (λ c. search needs)
     array-share-prefix-from
     slice-aggregate-put-2
     put-requires

@@ -17,53 +17,11 @@ name-long c = search needs
 serial-long : (c : tie.Start) → length (c .args .s .serial) ≡ 4
 serial-long c = search needs
 
-cast-low : tie.Need-cast-low
-cast-low c = search needs
-
-cast-high : tie.Need-cast-high
-cast-high c = search needs
-
-flag-of-requires : tie.Need-flag-of-requires
-flag-of-requires c κs = search needs
-
-flag-of-requires-2 : tie.Need-flag-of-requires-2
-flag-of-requires-2 c κs = search needs
-
-slice-aggregate-put : tie.Need-slice-aggregate-put
-slice-aggregate-put c = search needs
-
-slice-aggregate-put-2 : tie.Need-slice-aggregate-put-2
-slice-aggregate-put-2 c = search needs
-
-put-requires : tie.Need-put-requires
-put-requires c κs = search needs
-
-slice-aggregate-put-3 : tie.Need-slice-aggregate-put-3
-slice-aggregate-put-3 c = search needs
-
-slice-aggregate-put-4 : tie.Need-slice-aggregate-put-4
-slice-aggregate-put-4 c = search needs
-
 put-requires-2 : tie.Need-put-requires-2
 put-requires-2 c κs = let full = name-long (c .before .before .before .before .before .before .before .before .before .before .before .before) in search needs
 
-slice-aggregate-put-5 : tie.Need-slice-aggregate-put-5
-slice-aggregate-put-5 c = search needs
-
-slice-aggregate-put-6 : tie.Need-slice-aggregate-put-6
-slice-aggregate-put-6 c = search needs
-
 put-requires-3 : tie.Need-put-requires-3
 put-requires-3 c κs = let full = serial-long (c .before .before .before .before .before .before .before .before .before .before .before .before .before .before .before .before) in search needs
-
-slice-aggregate-put-7 : tie.Need-slice-aggregate-put-7
-slice-aggregate-put-7 c = search needs
-
-slice-aggregate-put-8 : tie.Need-slice-aggregate-put-8
-slice-aggregate-put-8 c = search needs
-
-put-requires-4 : tie.Need-put-requires-4
-put-requires-4 c κs = search needs
 
 returns : tie.Need-returns
 unfolding bytesOf lowBytes
@@ -86,20 +44,20 @@ pub bytes-of-spec : {M : Type 1} → statement M
 bytes-of-spec =
     tie.close
     (tie.spec
-    cast-low
-    cast-high
-    flag-of-requires
-    flag-of-requires-2
-    slice-aggregate-put
-    slice-aggregate-put-2
-    put-requires
-    slice-aggregate-put-3
-    slice-aggregate-put-4
+    (λ c. search needs)
+    (λ c. search needs)
+    (λ c κs. search needs)
+    (λ c κs. search needs)
+    (λ c. search needs)
+    (λ c. search needs)
+    (λ c κs. search needs)
+    (λ c. search needs)
+    (λ c. search needs)
     put-requires-2
-    slice-aggregate-put-5
-    slice-aggregate-put-6
+    (λ c. search needs)
+    (λ c. search needs)
     put-requires-3
-    slice-aggregate-put-7
-    slice-aggregate-put-8
-    put-requires-4
+    (λ c. search needs)
+    (λ c. search needs)
+    (λ c κs. search needs)
     returns)

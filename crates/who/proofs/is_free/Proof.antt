@@ -10,12 +10,9 @@ returns : tie.Need-returns
 unfolding freeNumber
 returns c = rw (lt-leb 1 _ (c .if1 .taken))
 
-is-in-requires : tie.Need-is-in-requires
-is-in-requires c κs = search needs
-
 returns-2 : tie.Need-returns-2
 unfolding freeNumber
 returns-2 c = rw (le-leb 1 _ (c .before .if1 .left)) (ap not (c .is-in .ensures .answer))
 
 pub is-free-spec : {M : Type 1} → statement M
-is-free-spec = tie.close (tie.spec returns is-in-requires returns-2)
+is-free-spec = tie.close (tie.spec returns (λ c κs. search needs) returns-2)

@@ -19,21 +19,9 @@ returns : tie.Need-returns
 unfolding goodRecords
 returns c = record { answer = rw (ne-eqb _ _ (c .if1 .taken)) }
 
-part-requires : tie.Need-part-requires
-part-requires c κs = search needs
-
-slice-aggregate-is-same : tie.Need-slice-aggregate-is-same
-slice-aggregate-is-same c = search needs
-
-is-same-requires : tie.Need-is-same-requires
-is-same-requires c κs = search needs
-
 returns-2 : tie.Need-returns-2
 unfolding goodRecords
 returns-2 c = record { answer = rw (eq-eqb _ _ (c .before .before .before .before .if1 .left), compared (c .before) ∙ not-true _ (c .if2 .taken)) }
-
-records-good-requires : tie.Need-records-good-requires
-records-good-requires c κs = search needs
 
 returns-3 : tie.Need-returns-3
 unfolding goodRecords
@@ -44,9 +32,9 @@ is-good-spec =
     tie.close
     (tie.spec
     returns
-    part-requires
-    slice-aggregate-is-same
-    is-same-requires
+    (λ c κs. search needs)
+    (λ c. search needs)
+    (λ c κs. search needs)
     returns-2
-    records-good-requires
+    (λ c κs. search needs)
     returns-3)

@@ -4,12 +4,6 @@ use borrow.Author.Needs.{needs}
 use Rattle.who.proofs.is_in.Statement.{statement}
 use Rattle.who.proofs.is_in.Tie as tie
 
-mul-result : tie.Need-mul-result
-mul-result c = search needs
-
-shared-slice-read-result : tie.Need-shared-slice-read-result
-shared-slice-read-result c = search needs
-
 returns : tie.Need-returns
 unfolding loggedIn
 returns c = record { answer = rw (lt-ltb _ _ (c .before .if1 .taken)) }
@@ -19,4 +13,4 @@ unfolding loggedIn
 returns-2 c = record { answer = rw (le-ltb _ _ (c .if1 .left)) }
 
 pub is-in-spec : {M : Type 1} → statement M
-is-in-spec = tie.close (tie.spec mul-result shared-slice-read-result returns returns-2)
+is-in-spec = tie.close (tie.spec (λ c. search needs) (λ c. search needs) returns returns-2)

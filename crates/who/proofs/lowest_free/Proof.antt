@@ -16,18 +16,9 @@ abbrev μ-loop : tie.MeasureT-loop
 loop-holds : tie.Need-loop-holds Inv-loop μ-loop
 loop-holds c = search-starts _ _
 
-is-free-requires : tie.Need-is-free-requires Inv-loop μ-loop
-is-free-requires c κs = search needs
-
 returns : tie.Need-returns Inv-loop μ-loop
 unfolding lowestFree
 returns c = record { answer = search-hit _ _ (c .before .before .before .loop .inv) (c .before .before .loop-test .taken) (sym (c .before .is-free .ensures) ∙ c .if1 .taken) }
-
-add-n : tie.Need-add-n Inv-loop μ-loop
-add-n c = omega arith
-
-loop-less : tie.Need-loop-less Inv-loop μ-loop
-loop-less c = omega arith
 
 loop-again : tie.Need-loop-again Inv-loop μ-loop
 loop-again c = search-on _ _ (c .before .before .before .loop .inv) (c .before .before .loop-test .taken) (sym (c .before .is-free .ensures) ∙ c .if1 .left)
@@ -43,9 +34,9 @@ lowest-free-spec =
     Inv-loop
     μ-loop
     loop-holds
-    is-free-requires
+    (λ c κs. search needs)
     returns
-    add-n
-    loop-less
+    (λ c. omega arith)
+    (λ c. omega arith)
     loop-again
     returns-2)

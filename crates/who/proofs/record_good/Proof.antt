@@ -16,32 +16,14 @@ use Rattle.who.proofs.record_good.Tie as tie
 judged : (c : tie.After-counts-good) → goodCounts (lowFirst (part (now (c .before .before .before .before .before .before .before .before .args .r)) 1 2)) (getD (now (c .before .before .before .before .before .before .before .before .args .r)) 3 0) ≡ c .counts-good .result
 judged c = rw (c .before .before .two-at .ensures) at (sym (c .counts-good .ensures))
 
-shared-slice-read-if1 : tie.Need-shared-slice-read-if1
-shared-slice-read-if1 c = search needs
-
 returns : tie.Need-returns
 returns c = refuted _ (λ h. omega (arith, sound-is _ h .logged))
-
-shared-slice-read-if2 : tie.Need-shared-slice-read-if2
-shared-slice-read-if2 c = search needs
 
 returns-2 : tie.Need-returns-2
 returns-2 c = refuted _ (λ h. omega (arith, sound-is _ h .found))
 
-two-at-requires : tie.Need-two-at-requires
-two-at-requires c κs = search needs
-
-shared-slice-read-counts-good : tie.Need-shared-slice-read-counts-good
-shared-slice-read-counts-good c = search needs
-
-counts-good-requires : tie.Need-counts-good-requires
-counts-good-requires c κs = search needs
-
 returns-3 : tie.Need-returns-3
 returns-3 c = refuted _ (λ h. both (is-counts _ _ (sound-is _ h .counts)) (judged (c .before) ∙ not-true _ (c .if3 .taken)))
-
-shared-slice-read-if4 : tie.Need-shared-slice-read-if4
-shared-slice-read-if4 c = search needs
 
 returns-4 : tie.Need-returns-4
 returns-4 c = sym (is-sound _ (record {
@@ -51,9 +33,6 @@ returns-4 c = sym (is-sound _ (record {
   out = λ z. absurd (omega (arith, c .if4 .taken));
 }))
 
-is-zero-requires : tie.Need-is-zero-requires
-is-zero-requires c κs = search needs
-
 returns-5 : tie.Need-returns-5
 unfolding goodRecord
 returns-5 c = rw (le-leb _ 1 (c .before .before .before .before .before .before .before .before .before .if1 .left), le-leb _ 1 (c .before .before .before .before .before .before .before .if2 .left), judged (c .before .before .before .before) ∙ not-false _ (c .before .before .before .if3 .left), ne-eqb _ 1 (c .before .if4 .left)) (c .is-zero .ensures .answer)
@@ -62,15 +41,15 @@ pub record-good-spec : {M : Type 1} → statement M
 record-good-spec =
     tie.close
     (tie.spec
-    shared-slice-read-if1
+    (λ c. search needs)
     returns
-    shared-slice-read-if2
+    (λ c. search needs)
     returns-2
-    two-at-requires
-    shared-slice-read-counts-good
-    counts-good-requires
+    (λ c κs. search needs)
+    (λ c. search needs)
+    (λ c κs. search needs)
     returns-3
-    shared-slice-read-if4
+    (λ c. search needs)
     returns-4
-    is-zero-requires
+    (λ c κs. search needs)
     returns-5)

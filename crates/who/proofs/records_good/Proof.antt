@@ -24,23 +24,11 @@ judged c = sym (c .record-good .ensures ∙ ap goodRecord (c .before .part .ensu
 loop-holds : tie.Need-loop-holds Inv-loop μ-loop
 loop-holds c = pass-starts _ _
 
-mul-part : tie.Need-mul-part Inv-loop μ-loop
-mul-part c = omega arith
-
-part-requires : tie.Need-part-requires Inv-loop μ-loop
-part-requires c κs = omega arith
-
 record-good-requires : tie.Need-record-good-requires Inv-loop μ-loop
 record-good-requires c κs = ap length (c .part .ensures) ∙ length-row 18 numbers (now (c .before .before .before .before .args .records)) (omega arith) _ (c .before .loop-test .taken)
 
 returns : tie.Need-returns Inv-loop μ-loop
 returns c = pass-breaks _ _ (c .before .before .before .loop-test .taken) (judged (c .before) ∙ not-true _ (c .if1 .taken))
-
-add-n : tie.Need-add-n Inv-loop μ-loop
-add-n c = omega arith
-
-loop-less : tie.Need-loop-less Inv-loop μ-loop
-loop-less c = omega arith
 
 loop-again : tie.Need-loop-again Inv-loop μ-loop
 loop-again c = pass-on _ _ (c .before .before .before .before .loop .inv) (c .before .before .before .loop-test .taken) (judged (c .before) ∙ not-false _ (c .if1 .left))
@@ -55,11 +43,11 @@ records-good-spec =
     Inv-loop
     μ-loop
     loop-holds
-    mul-part
-    part-requires
+    (λ c. omega arith)
+    (λ c κs. omega arith)
     record-good-requires
     returns
-    add-n
-    loop-less
+    (λ c. omega arith)
+    (λ c. omega arith)
     loop-again
     returns-2)

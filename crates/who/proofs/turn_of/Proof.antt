@@ -10,9 +10,6 @@ use borrow.Author.Needs.{needs}
 use Rattle.who.proofs.turn_of.Statement.{statement}
 use Rattle.who.proofs.turn_of.Tie as tie
 
-is-due-requires : tie.Need-is-due-requires
-is-due-requires c κs = search needs
-
 add-t6 : tie.Need-add-t6
 add-t6 c = omega (arith, counts-is _ _ (c .before .before .pre) .short)
 
@@ -34,4 +31,4 @@ returns-3 c = let m = c .before .before .before .args .misses in
     rw (sym (c .before .before .is-due .ensures) ∙ not-false _ (c .before .if1 .left), c .if2 .left, last)
 
 pub turn-of-spec : {M : Type 1} → statement M
-turn-of-spec = tie.close (tie.spec is-due-requires add-t6 returns returns-2 add-t7 returns-3)
+turn-of-spec = tie.close (tie.spec (λ c κs. search needs) add-t6 returns returns-2 add-t7 returns-3)

@@ -5,15 +5,9 @@ use borrow.Author.Needs.{needs}
 use Rattle.frames.proofs.compose.length_of.Statement.{statement}
 use Rattle.frames.proofs.compose.length_of.Tie as tie
 
-code-of-requires : tie.Need-code-of-requires
-code-of-requires c κs = search needs
-
-frame-length-requires : tie.Need-frame-length-requires
-frame-length-requires c κs = search needs
-
 returns : tie.Need-returns
 returns c = let sized : Sized (c .before .before .args .q) = search needs in
     c .frame-length .ensures .answer ∙ ap frameLength (c .before .code-of .ensures) ∙ sym (frame-long _ _ sized refl)
 
 pub length-of-spec : {M : Type 1} → statement M
-length-of-spec = tie.close (tie.spec code-of-requires frame-length-requires returns)
+length-of-spec = tie.close (tie.spec (λ c κs. search needs) (λ c κs. search needs) returns)

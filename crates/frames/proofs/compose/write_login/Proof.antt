@@ -11,23 +11,8 @@ use borrow.Author.Needs.{needs}
 use Rattle.frames.proofs.compose.write_login.Statement.{statement}
 use Rattle.frames.proofs.compose.write_login.Tie as tie
 
-write-named-requires : tie.Need-write-named-requires
-write-named-requires c κs = search needs
-
-slice-aggregate-put : tie.Need-slice-aggregate-put
-slice-aggregate-put c = search needs
-
 put-requires : tie.Need-put-requires
 put-requires c κs = let full : length (c .before .before .before .before .before .before .before .before .args .q .serial) ≡ 4 = search needs in search needs
-
-slice-aggregate-put-2 : tie.Need-slice-aggregate-put-2
-slice-aggregate-put-2 c = search needs
-
-put-requires-2 : tie.Need-put-requires-2
-put-requires-2 c κs = search needs
-
-same-length : tie.Need-same-length
-same-length c = search needs
 
 returns : tie.Need-returns
 unfolding namedFields loginFields
@@ -42,10 +27,10 @@ pub write-login-spec : {M : Type 1} → statement M
 write-login-spec =
     tie.close
     (tie.spec
-    write-named-requires
-    slice-aggregate-put
+    (λ c κs. search needs)
+    (λ c. search needs)
     put-requires
-    slice-aggregate-put-2
-    put-requires-2
-    same-length
+    (λ c. search needs)
+    (λ c κs. search needs)
+    (λ c. search needs)
     returns)

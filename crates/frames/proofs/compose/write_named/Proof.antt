@@ -8,23 +8,11 @@ use borrow.Author.Needs.{needs}
 use Rattle.frames.proofs.compose.write_named.Statement.{statement}
 use Rattle.frames.proofs.compose.write_named.Tie as tie
 
-write-code-requires : tie.Need-write-code-requires
-write-code-requires c κs = search needs
-
-slice-aggregate-put : tie.Need-slice-aggregate-put
-slice-aggregate-put c = search needs
-
 put-requires : tie.Need-put-requires
 put-requires c κs = let full : length (c .before .before .before .before .before .before .before .before .before .args .q .name) ≡ 8 = search needs in search needs
 
-slice-aggregate-put-2 : tie.Need-slice-aggregate-put-2
-slice-aggregate-put-2 c = search needs
-
 put-requires-2 : tie.Need-put-requires-2
 put-requires-2 c κs = let full : length (c .before .before .before .before .before .before .before .before .before .before .before .before .before .before .args .q .password) ≡ 6 = search needs in search needs
-
-same-length : tie.Need-same-length
-same-length c = search needs
 
 returns : tie.Need-returns
 unfolding namedFields
@@ -37,10 +25,10 @@ pub write-named-spec : {M : Type 1} → statement M
 write-named-spec =
     tie.close
     (tie.spec
-    write-code-requires
-    slice-aggregate-put
+    (λ c κs. search needs)
+    (λ c. search needs)
     put-requires
-    slice-aggregate-put-2
+    (λ c. search needs)
     put-requires-2
-    same-length
+    (λ c. search needs)
     returns)

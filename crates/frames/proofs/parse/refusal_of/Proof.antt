@@ -16,12 +16,6 @@ returns : tie.Need-returns
 unfolding refusalOf
 returns c = rw (eq-eqb _ _ (c .if1 .taken))
 
-shared-slice-read-code : tie.Need-shared-slice-read-code
-shared-slice-read-code c = search needs
-
-frame-length-requires : tie.Need-frame-length-requires
-frame-length-requires c κs = search needs
-
 returns-2 : tie.Need-returns-2
 unfolding refusalOf
 returns-2 c = rw (ne-eqb _ _ (c .before .before .before .if1 .left), eq-eqb _ _ (sym (c .before .frame-length .ensures .answer) ∙ c .if2 .taken))
@@ -31,9 +25,6 @@ unfolding refusalOf
 returns-3 c = let table = c .before .before .frame-length .ensures .answer in
     let f = now (c .before .before .before .before .before .before .args .frame) in
     rw (ne-eqb _ _ (c .before .before .before .before .if1 .left), ne-eqb (frameLength (code f)) 0 (λ e. omega (arith, table)), ne-eqb (length f) (frameLength (code f)) (λ e. omega (arith, table)))
-
-has-address-requires : tie.Need-has-address-requires
-has-address-requires c κs = search needs
 
 returns-4 : tie.Need-returns-4
 returns-4 c = let table = c .before .before .before .before .frame-length .ensures .answer in
@@ -68,11 +59,11 @@ refusal-of-spec =
     tie.close
     (tie.spec
     returns
-    shared-slice-read-code
-    frame-length-requires
+    (λ c. search needs)
+    (λ c κs. search needs)
     returns-2
     returns-3
-    has-address-requires
+    (λ c κs. search needs)
     returns-4
     shared-slice-read-if5
     returns-5

@@ -18,9 +18,6 @@ address-of-requires : tie.Need-address-of-requires
 unfolding frameLength lengthIn frameTable
 address-of-requires c κs = omega (arith, well-long _ READ (c .before .before .before .before .pre) (c .before .match .keys1))
 
-plain-requires : tie.Need-plain-requires
-plain-requires c κs = search needs
-
 shared-slice-read-t11 : tie.Need-shared-slice-read-t11
 unfolding frameLength lengthIn frameTable
 shared-slice-read-t11 c = omega (arith, well-long _ WRITE (c .before .before .before .before .pre) (c .before .match .keys2))
@@ -28,9 +25,6 @@ shared-slice-read-t11 c = omega (arith, well-long _ WRITE (c .before .before .be
 address-of-requires-2 : tie.Need-address-of-requires-2
 unfolding frameLength lengthIn frameTable
 address-of-requires-2 c κs = omega (arith, well-long _ WRITE (c .before .before .before .before .pre) (c .before .match .keys2))
-
-plain-requires-2 : tie.Need-plain-requires-2
-plain-requires-2 c κs = search needs
 
 login-requires : tie.Need-login-requires
 unfolding frameLength lengthIn frameTable
@@ -48,18 +42,9 @@ with-string-requires-2 : tie.Need-with-string-requires-2
 unfolding frameLength lengthIn frameTable
 with-string-requires-2 c κs = omega (arith, well-long _ UNLOCK (c .before .before .before .pre) (c .match .keys6))
 
-plain-requires-3 : tie.Need-plain-requires-3
-plain-requires-3 c κs = search needs
-
 shared-slice-read-t19 : tie.Need-shared-slice-read-t19
 unfolding frameLength lengthIn frameTable
 shared-slice-read-t19 c = omega (arith, well-long _ LOGOUT (c .before .before .before .before .pre) (c .before .match .keys8))
-
-plain-requires-4 : tie.Need-plain-requires-4
-plain-requires-4 c κs = search needs
-
-plain-requires-5 : tie.Need-plain-requires-5
-plain-requires-5 c κs = search needs
 
 returns : tie.Need-returns
 unfolding requestIn
@@ -106,18 +91,18 @@ request-of-spec =
     shared-slice-read-code
     shared-slice-read-t7
     address-of-requires
-    plain-requires
+    (λ c κs. search needs)
     shared-slice-read-t11
     address-of-requires-2
-    plain-requires-2
+    (λ c κs. search needs)
     login-requires
     named-requires
     with-string-requires
     with-string-requires-2
-    plain-requires-3
+    (λ c κs. search needs)
     shared-slice-read-t19
-    plain-requires-4
-    plain-requires-5
+    (λ c κs. search needs)
+    (λ c κs. search needs)
     returns
     returns-2
     returns-3

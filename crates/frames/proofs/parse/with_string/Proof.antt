@@ -5,15 +5,9 @@ use borrow.Author.Needs.{needs}
 use Rattle.frames.proofs.parse.with_string.Statement.{statement}
 use Rattle.frames.proofs.parse.with_string.Tie as tie
 
-string-at-requires : tie.Need-string-at-requires
-string-at-requires c κs = search needs
-
-plain-requires : tie.Need-plain-requires
-plain-requires c κs = search needs
-
 returns : tie.Need-returns
 unfolding stringRequest plain stringAt
 returns c = rw (c .plain .ensures, c .before .string-at .ensures)
 
 pub with-string-spec : {M : Type 1} → statement M
-with-string-spec = tie.close (tie.spec string-at-requires plain-requires returns)
+with-string-spec = tie.close (tie.spec (λ c κs. search needs) (λ c κs. search needs) returns)

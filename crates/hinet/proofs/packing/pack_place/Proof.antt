@@ -6,19 +6,13 @@ use borrow.Author.Needs.{needs}
 use Rattle.hinet.proofs.packing.pack_place.Statement.{statement}
 use Rattle.hinet.proofs.packing.pack_place.Tie as tie
 
-cast-result : tie.Need-cast-result
-cast-result c = search needs
-
 returns : tie.Need-returns
 unfolding word placeTold
 returns c = rw (ne-eqb _ _ (c .if1 .taken))
-
-pack-requires : tie.Need-pack-requires
-pack-requires c κs = search needs
 
 returns-2 : tie.Need-returns-2
 unfolding told placeTold
 returns-2 c = rw (eq-eqb _ _ (c .before .before .if1 .left)) (c .pack .ensures)
 
 pub pack-place-spec : {M : Type 1} → statement M
-pack-place-spec = tie.close (tie.spec cast-result returns pack-requires returns-2)
+pack-place-spec = tie.close (tie.spec (λ c. search needs) returns (λ c κs. search needs) returns-2)

@@ -7,12 +7,9 @@ use borrow.Author.Needs.{needs}
 use Rattle.locks.proofs.row.is_free.Statement.{statement}
 use Rattle.locks.proofs.row.is_free.Tie as tie
 
-owner-of-requires : tie.Need-owner-of-requires
-owner-of-requires c κs = search needs
-
 returns : tie.Need-returns
 unfolding freeAt isFree ownerAt
 returns c = ap (λ (k : ℕ). eqb k 0xFF) (c .owner-of .ensures)
 
 pub is-free-spec : {M : Type 1} → statement M
-is-free-spec = tie.close (tie.spec owner-of-requires returns)
+is-free-spec = tie.close (tie.spec (λ c κs. search needs) returns)

@@ -11,16 +11,10 @@ use borrow.Author.Needs.{needs}
 use Rattle.locks.proofs.row.owner_of.Statement.{statement}
 use Rattle.locks.proofs.row.owner_of.Tie as tie
 
-mul-result : tie.Need-mul-result
-mul-result c = search needs
-
-shared-slice-read-result : tie.Need-shared-slice-read-result
-shared-slice-read-result c = search needs
-
 returns : tie.Need-returns
 unfolding ownerAt owner
 returns c = let a = c .before .args in
     sym (getD-part (now (a .table)) (16 * a .i) 16 0 (lit< tt) ∙ ap (λ (k : ℕ). getD (now (a .table)) k 0) (add-zero _))
 
 pub owner-of-spec : {M : Type 1} → statement M
-owner-of-spec = tie.close (tie.spec mul-result shared-slice-read-result returns)
+owner-of-spec = tie.close (tie.spec (λ c. search needs) (λ c. search needs) returns)

@@ -13,15 +13,6 @@ use borrow.Author.Needs.{needs}
 use Rattle.master.proofs.commands.assign.Statement.{statement}
 use Rattle.master.proofs.commands.assign.Tie as tie
 
-partition-named-requires : tie.Need-partition-named-requires
-partition-named-requires c κs = search needs
-
-partition-count-requires : tie.Need-partition-count-requires
-partition-count-requires c κs = search needs
-
-denied-requires : tie.Need-denied-requires
-denied-requires c κs = search needs
-
 returns : tie.Need-returns
 unfolding assignAnswer assignable
 returns c = let a = c .before .before .before .before .before .before .before .args in
@@ -30,9 +21,6 @@ returns c = let a = c .before .before .before .before .before .before .before .a
 
 password-fits-requires : tie.Need-password-fits-requires
 password-fits-requires c κs = (c .before .before .before .before .before .before .pre, rw (c .before .partition-count .ensures .answer) at (c .if1 .left))
-
-denied-requires-2 : tie.Need-denied-requires-2
-denied-requires-2 c κs = search needs
 
 returns-2 : tie.Need-returns-2
 unfolding assignAnswer assignable
@@ -57,12 +45,12 @@ pub assign-spec : {M : Type 1} → statement M
 assign-spec =
     tie.close
     (tie.spec
-    partition-named-requires
-    partition-count-requires
-    denied-requires
+    (λ c κs. search needs)
+    (λ c κs. search needs)
+    (λ c κs. search needs)
     returns
     password-fits-requires
-    denied-requires-2
+    (λ c κs. search needs)
     returns-2
     partition-row-requires
     returns-3)

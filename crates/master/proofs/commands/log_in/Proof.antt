@@ -18,17 +18,8 @@ use borrow.Author.Needs.{needs}
 use Rattle.master.proofs.commands.log_in.Statement.{statement}
 use Rattle.master.proofs.commands.log_in.Tie as tie
 
-slice-aggregate-four-at : tie.Need-slice-aggregate-four-at
-slice-aggregate-four-at c = search needs
-
 four-at-requires : tie.Need-four-at-requires
 four-at-requires c κs = let full : length (c .before .before .before .before .before .before .args .q .serial) ≡ 4 = search needs in omega arith
-
-lowest-free-requires : tie.Need-lowest-free-requires
-lowest-free-requires c κs = search needs
-
-same-length : tie.Need-same-length
-same-length c = search needs
 
 -- all of a list of four
 whole : (l : List ℕ) → length l ≡ 4 → part l 0 4 ≡ l
@@ -43,17 +34,8 @@ returns c = let a = c .before .before .before .before .before .before .before .b
     let sent : c .before .before .before .four-at .result ≡ lowFirst (a .q .serial) = c .before .before .before .four-at .ensures ∙ ap lowFirst (whole (a .q .serial) full) in
     record { answer = rw (le-ltb _ numbers none, sent); records = rw (le-ltb _ numbers none) }
 
-has-user-requires : tie.Need-has-user-requires
-has-user-requires c κs = search needs
-
 put-station-requires : tie.Need-put-station-requires
 put-station-requires c κs = omega (arith, good-is (now (c .before .before .before .before .before .before .before .before .before .before .before .before .args .records)) (c .before .before .before .before .before .before .before .before .before .before .before .before .pre .0) .sized, c .before .before .if1 .left)
-
-cast-t21 : tie.Need-cast-t21
-cast-t21 c = search needs
-
-same-length-2 : tie.Need-same-length-2
-same-length-2 c = search needs
 
 returns-2 : tie.Need-returns-2
 unfolding told loginAnswer loginRecords hasFree nameFound afterLogin loggedInAs
@@ -70,13 +52,13 @@ pub log-in-spec : {M : Type 1} → statement M
 log-in-spec =
     tie.close
     (tie.spec
-    slice-aggregate-four-at
+    (λ c. search needs)
     four-at-requires
-    lowest-free-requires
-    same-length
+    (λ c κs. search needs)
+    (λ c. search needs)
     returns
-    has-user-requires
+    (λ c κs. search needs)
     put-station-requires
-    cast-t21
-    same-length-2
+    (λ c. search needs)
+    (λ c. search needs)
     returns-2)

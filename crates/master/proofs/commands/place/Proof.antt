@@ -6,9 +6,6 @@ use borrow.Author.Needs.{needs}
 use Rattle.master.proofs.commands.place.Statement.{statement}
 use Rattle.master.proofs.commands.place.Tie as tie
 
-place-in-requires : tie.Need-place-in-requires
-place-in-requires c κs = search needs
-
 returns : tie.Need-returns
 unfolding told placeTold
 returns c = rw (sym (c .before .place-in .ensures .answer)) (rw (ne-eqb _ _ (c .if1 .taken)))
@@ -18,4 +15,4 @@ unfolding told placeTold
 returns-2 c = rw (sym (c .before .before .place-in .ensures .answer)) (rw (eq-eqb _ _ (c .before .if1 .left)))
 
 pub place-spec : {M : Type 1} → statement M
-place-spec = tie.close (tie.spec place-in-requires returns returns-2)
+place-spec = tie.close (tie.spec (λ c κs. search needs) returns returns-2)

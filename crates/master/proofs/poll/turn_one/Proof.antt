@@ -4,29 +4,11 @@ use borrow.Author.Needs.{needs}
 use Rattle.master.proofs.poll.turn_one.Statement.{statement}
 use Rattle.master.proofs.poll.turn_one.Tie as tie
 
-turn-of-requires : tie.Need-turn-of-requires
-turn-of-requires c κs = search needs
-
-is-early-requires : tie.Need-is-early-requires
-is-early-requires c κs = search needs
-
 returns : tie.Need-returns
 returns c = steps-12 _ _ _ _ _ (c .before .before .turn-of .ensures) (sym (c .before .is-early .ensures) ∙ c .if1 .taken)
 
-free-all-requires : tie.Need-free-all-requires
-free-all-requires c κs = search needs
-
-vacant-requires : tie.Need-vacant-requires
-vacant-requires c κs = search needs
-
-same-length : tie.Need-same-length
-same-length c = search needs
-
 returns-2 : tie.Need-returns-2
 returns-2 c = steps-out _ _ _ _ _ (c .before .before .before .before .before .before .before .before .turn-of .ensures) (sym (c .before .before .before .before .before .before .before .is-early .ensures) ∙ c .before .before .before .before .before .before .if1 .left) (c .before .before .before .before .before .if2 .taken) _ _ (c .vacant .ensures .answer) (c .before .before .before .free-all .ensures)
-
-after-turn-requires : tie.Need-after-turn-requires
-after-turn-requires c κs = search needs
 
 returns-3 : tie.Need-returns-3
 returns-3 c = steps-on _ _ _ _ _ (c .before .before .before .before .turn-of .ensures) (sym (c .before .before .before .is-early .ensures) ∙ c .before .before .if1 .left) (c .before .if2 .left) _ (c .after-turn .ensures)
@@ -35,12 +17,12 @@ pub turn-one-spec : {M : Type 1} → statement M
 turn-one-spec =
     tie.close
     (tie.spec
-    turn-of-requires
-    is-early-requires
+    (λ c κs. search needs)
+    (λ c κs. search needs)
     returns
-    free-all-requires
-    vacant-requires
-    same-length
+    (λ c κs. search needs)
+    (λ c κs. search needs)
+    (λ c. search needs)
     returns-2
-    after-turn-requires
+    (λ c κs. search needs)
     returns-3)

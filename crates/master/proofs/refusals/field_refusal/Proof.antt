@@ -8,12 +8,6 @@ use borrow.Author.Needs.{needs}
 use Rattle.master.proofs.refusals.field_refusal.Statement.{statement}
 use Rattle.master.proofs.refusals.field_refusal.Tie as tie
 
-shared-slice-read-code : tie.Need-shared-slice-read-code
-shared-slice-read-code c = search needs
-
-has-address-requires : tie.Need-has-address-requires
-has-address-requires c κs = search needs
-
 shared-slice-read-if2 : tie.Need-shared-slice-read-if2
 shared-slice-read-if2 c = omega (arith, c .before .before .before .before .before .pre .0, address-long _ (sym (c .before .before .has-address .ensures .answer) ∙ c .before .if1 .taken))
 
@@ -23,9 +17,6 @@ returns c = rw (sym (c .before .before .before .has-address .ensures .answer) �
 
 shared-slice-read-wide : tie.Need-shared-slice-read-wide
 shared-slice-read-wide c = omega (arith, c .before .before .before .before .before .before .before .pre .0, address-long _ (sym (c .before .before .before .before .has-address .ensures .answer) ∙ c .before .before .before .if1 .taken))
-
-wide-requires : tie.Need-wide-requires
-wide-requires c κs = search needs
 
 returns-2 : tie.Need-returns-2
 unfolding dtnSet srcDiffers
@@ -43,9 +34,6 @@ shared-slice-read-wide-2 : tie.Need-shared-slice-read-wide-2
 unfolding frameLength lengthIn frameTable
 shared-slice-read-wide-2 c = let out = c .before .if4 .left in omega (arith, c .before .before .before .before .before .before .pre .0, ap frameLength out)
 
-wide-requires-2 : tie.Need-wide-requires-2
-wide-requires-2 c κs = search needs
-
 returns-5 : tie.Need-returns-5
 unfolding dtnSet srcDiffers
 returns-5 c = rw (sym (c .before .before .before .before .before .has-address .ensures .answer) ∙ c .before .before .before .before .if1 .left, eq-eqb _ _ (c .before .before .before .if4 .left), eq-eqb _ _ (sym (c .before .wide2 .ensures) ∙ c .if5 .taken))
@@ -58,16 +46,16 @@ pub field-refusal-spec : {M : Type 1} → statement M
 field-refusal-spec =
     tie.close
     (tie.spec
-    shared-slice-read-code
-    has-address-requires
+    (λ c. search needs)
+    (λ c κs. search needs)
     shared-slice-read-if2
     returns
     shared-slice-read-wide
-    wide-requires
+    (λ c κs. search needs)
     returns-2
     returns-3
     returns-4
     shared-slice-read-wide-2
-    wide-requires-2
+    (λ c κs. search needs)
     returns-5
     returns-6)

@@ -9,18 +9,9 @@ returns : tie.Need-returns
 unfolding frameTests
 returns c = rw (eq-eqb _ _ (c .if1 .taken))
 
-is-unknown-requires : tie.Need-is-unknown-requires
-is-unknown-requires c κs = search needs
-
 returns-2 : tie.Need-returns-2
 unfolding frameTests
 returns-2 c = rw (ne-eqb _ _ (c .before .before .if1 .left), sym (c .before .is-unknown .ensures) ∙ c .if2 .taken)
-
-shared-slice-read-code : tie.Need-shared-slice-read-code
-shared-slice-read-code c = search needs
-
-frame-length-requires : tie.Need-frame-length-requires
-frame-length-requires c κs = search needs
 
 returns-3 : tie.Need-returns-3
 unfolding frameTests
@@ -29,9 +20,6 @@ returns-3 c = rw (ne-eqb _ _ (c .before .before .before .before .before .if1 .le
 returns-4 : tie.Need-returns-4
 unfolding frameTests
 returns-4 c = rw (ne-eqb _ _ (c .before .before .before .before .before .before .if1 .left), sym (c .before .before .before .before .before .is-unknown .ensures) ∙ c .before .before .before .before .if2 .left, ne-eqb _ _ (λ e. c .before .if3 .left (c .before .before .frame-length .ensures .answer ∙ e)), ne-eqb _ _ (λ e. c .if4 .taken (e ∙ sym (c .before .before .frame-length .ensures .answer))))
-
-is-misplaced-requires : tie.Need-is-misplaced-requires
-is-misplaced-requires c κs = search needs
 
 returns-5 : tie.Need-returns-5
 unfolding frameTests
@@ -49,13 +37,13 @@ first-of-spec =
     tie.close
     (tie.spec
     returns
-    is-unknown-requires
+    (λ c κs. search needs)
     returns-2
-    shared-slice-read-code
-    frame-length-requires
+    (λ c. search needs)
+    (λ c κs. search needs)
     returns-3
     returns-4
-    is-misplaced-requires
+    (λ c κs. search needs)
     returns-5
     field-refusal-requires
     returns-6)

@@ -10,12 +10,9 @@ returns : tie.Need-returns
 unfolding unknown
 returns c = rw (eq-eqb _ _ (c .if1 .taken))
 
-is-in-requires : tie.Need-is-in-requires
-is-in-requires c κs = search needs
-
 returns-2 : tie.Need-returns-2
 unfolding unknown
 returns-2 c = rw (ne-eqb _ _ (c .before .if1 .left)) (ap not (c .is-in .ensures .answer))
 
 pub is-unknown-spec : {M : Type 1} → statement M
-is-unknown-spec = tie.close (tie.spec returns is-in-requires returns-2)
+is-unknown-spec = tie.close (tie.spec returns (λ c κs. search needs) returns-2)

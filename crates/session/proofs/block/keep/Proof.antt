@@ -20,21 +20,6 @@ sub-n c = c .pre .0
 loop-holds : tie.Need-loop-holds Inv-loop μ-loop
 loop-holds c = (omega arith, moved-none _ _ _, refl)
 
-add-input : tie.Need-add-input Inv-loop μ-loop
-add-input c = omega arith
-
-slice-read-input : tie.Need-slice-read-input Inv-loop μ-loop
-slice-read-input c = omega arith
-
-slice-write-input : tie.Need-slice-write-input Inv-loop μ-loop
-slice-write-input c = omega arith
-
-add-k : tie.Need-add-k Inv-loop μ-loop
-add-k c = omega arith
-
-loop-less : tie.Need-loop-less Inv-loop μ-loop
-loop-less c = omega arith
-
 loop-again : tie.Need-loop-again Inv-loop μ-loop
 loop-again c = let a = c .before .before .before .args in
     (omega arith, rw (c .before .before .loop .inv .1) (moved-on (now (a .input)) (a .at) _ _ (c .before .loop-test .taken) (omega (arith, c .before .before .before .pre))), simp length-set (c .before .before .loop .inv .2))
@@ -54,11 +39,11 @@ keep-spec =
     μ-loop
     sub-n
     loop-holds
-    add-input
-    slice-read-input
-    slice-write-input
-    add-k
-    loop-less
+    (λ c. omega arith)
+    (λ c. omega arith)
+    (λ c. omega arith)
+    (λ c. omega arith)
+    (λ c. omega arith)
     loop-again
     same-length
     returns)

@@ -19,9 +19,6 @@ abbrev μ-loop : tie.MeasureT-loop
 here : (c : tie.In-loop Inv-loop μ-loop) → Whole (now (c .before .before .before .before .before .before .before .before .args .input)) (c .before .loop .at) (c .before .loop .size)
 here c = whole-is _ _ _ (c .before .loop .inv .0 .inside) (c .before .loop .inv .1) (c .loop-test .taken)
 
-record-size-requires : tie.Need-record-size-requires Inv-loop μ-loop
-record-size-requires c κs = omega arith
-
 loop-holds : tie.Need-loop-holds Inv-loop μ-loop
 loop-holds c = (playing-begins _ _ _ _ _ _, c .record-size .ensures, refl, refl, refl)
 
@@ -83,7 +80,7 @@ play-spec =
     (tie.spec
     Inv-loop
     μ-loop
-    record-size-requires
+    (λ c κs. omega arith)
     loop-holds
     shared-slice-read-play-record
     add-part

@@ -7,23 +7,8 @@ use borrow.Author.Needs.{needs}
 use Rattle.session.proofs.block.record_size.Statement.{statement}
 use Rattle.session.proofs.block.record_size.Tie as tie
 
-sub-left : tie.Need-sub-left
-sub-left c = search needs
-
 returns : tie.Need-returns
 returns c = size-none _ (rw length-drop (c .if1 .taken))
-
-add-wide : tie.Need-add-wide
-add-wide c = search needs
-
-shared-slice-read-wide : tie.Need-shared-slice-read-wide
-shared-slice-read-wide c = search needs
-
-wide-requires : tie.Need-wide-requires
-wide-requires c κs = search needs
-
-add-size : tie.Need-add-size
-add-size c = omega arith
 
 returns-2 : tie.Need-returns-2
 returns-2 c = let size = size-at (now (c .before .before .before .before .before .args .input)) (c .before .before .before .before .before .args .at) _ (c .before .wide .ensures .0) in
@@ -37,11 +22,11 @@ pub record-size-spec : {M : Type 1} → statement M
 record-size-spec =
     tie.close
     (tie.spec
-    sub-left
+    (λ c. search needs)
     returns
-    add-wide
-    shared-slice-read-wide
-    wide-requires
-    add-size
+    (λ c. search needs)
+    (λ c. search needs)
+    (λ c κs. search needs)
+    (λ c. omega arith)
     returns-2
     returns-3)

@@ -4,15 +4,9 @@ use borrow.Author.Needs.{needs}
 use Rattle.site.proofs.layout.partitions.Statement.{statement}
 use Rattle.site.proofs.layout.partitions.Tie as tie
 
-two-at-requires : tie.Need-two-at-requires
-two-at-requires c κs = search needs
-
-cast-result : tie.Need-cast-result
-cast-result c = search needs
-
 returns : tie.Need-returns
 unfolding partitions
 returns c = (c .two-at .ensures, omega (arith, c .two-at .ok))
 
 pub partitions-spec : {M : Type 1} → statement M
-partitions-spec = tie.close (tie.spec two-at-requires cast-result returns)
+partitions-spec = tie.close (tie.spec (λ c κs. search needs) (λ c. search needs) returns)

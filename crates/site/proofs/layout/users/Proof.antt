@@ -4,15 +4,9 @@ use borrow.Author.Needs.{needs}
 use Rattle.site.proofs.layout.users.Statement.{statement}
 use Rattle.site.proofs.layout.users.Tie as tie
 
-two-at-requires : tie.Need-two-at-requires
-two-at-requires c κs = search needs
-
-cast-result : tie.Need-cast-result
-cast-result c = search needs
-
 returns : tie.Need-returns
 unfolding users
 returns c = (c .two-at .ensures, omega (arith, c .two-at .ok))
 
 pub users-spec : {M : Type 1} → statement M
-users-spec = tie.close (tie.spec two-at-requires cast-result returns)
+users-spec = tie.close (tie.spec (λ c κs. search needs) (λ c. search needs) returns)

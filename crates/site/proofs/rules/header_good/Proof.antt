@@ -16,43 +16,19 @@ use Rattle.site.proofs.rules.header_good.Tie as tie
 returns : tie.Need-returns
 returns c = refuted _ (λ h. omega (arith, c .if1 .taken, header-is _ h .whole))
 
-users-requires : tie.Need-users-requires
-users-requires c κs = search needs
-
-partitions-requires : tie.Need-partitions-requires
-partitions-requires c κs = search needs
-
 returns-2 : tie.Need-returns-2
 returns-2 c = refuted _ (λ h. omega (arith, c .if2 .taken, c .before .before .users .ensures .0, header-is _ h .fewUsers))
 
 returns-3 : tie.Need-returns-3
 returns-3 c = refuted _ (λ h. omega (arith, c .if3 .taken, c .before .before .partitions .ensures .0, header-is _ h .fewPartitions))
 
-two-at-requires : tie.Need-two-at-requires
-two-at-requires c κs = search needs
-
 returns-4 : tie.Need-returns-4
 unfolding userOffset
 returns-4 c = refuted _ (λ h. c .if4 .taken (c .before .two-at .ensures ∙ header-is _ h .usersAt))
 
-partitions-from-requires : tie.Need-partitions-from-requires
-partitions-from-requires c κs = search needs
-
-two-at-requires-2 : tie.Need-two-at-requires-2
-two-at-requires-2 c κs = search needs
-
-cast-if5 : tie.Need-cast-if5
-cast-if5 c = search needs
-
 returns-5 : tie.Need-returns-5
 unfolding partitionOffset
 returns-5 c = refuted _ (λ h. c .if5 .taken (c .before .two-at2 .ensures ∙ header-is _ h .partitionsAt ∙ sym (c .before .before .partitions-from .ensures)))
-
-mul-result : tie.Need-mul-result
-mul-result c = search needs
-
-add-result : tie.Need-add-result
-add-result c = search needs
 
 returns-6 : tie.Need-returns-6
 unfolding goodHeader userOffset partitionOffset
@@ -67,16 +43,16 @@ header-good-spec =
     tie.close
     (tie.spec
     returns
-    users-requires
-    partitions-requires
+    (λ c κs. search needs)
+    (λ c κs. search needs)
     returns-2
     returns-3
-    two-at-requires
+    (λ c κs. search needs)
     returns-4
-    partitions-from-requires
-    two-at-requires-2
-    cast-if5
+    (λ c κs. search needs)
+    (λ c κs. search needs)
+    (λ c. search needs)
     returns-5
-    mul-result
-    add-result
+    (λ c. search needs)
+    (λ c. search needs)
     returns-6)

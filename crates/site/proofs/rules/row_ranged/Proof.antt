@@ -20,12 +20,6 @@ returns-3 c = refuted _ (λ h. omega (arith, c .if3 .taken, ranged-is _ h .least
 returns-4 : tie.Need-returns-4
 returns-4 c = refuted _ (λ h. omega (arith, c .if4 .taken, ranged-is _ h .most))
 
-sectors-requires : tie.Need-sectors-requires
-sectors-requires c κs = search needs
-
-sub-result : tie.Need-sub-result
-sub-result c = search needs
-
 returns-5 : tie.Need-returns-5
 unfolding ranged
 returns-5 c = let r = c .before .before .before .before .before .before .before .before .before .before .args .r in
@@ -38,4 +32,4 @@ returns-5 c = let r = c .before .before .before .before .before .before .before 
 pub row-ranged-spec : {M : Type 1} → statement M
 row-ranged-spec =
     tie.close
-    (tie.spec returns returns-2 returns-3 returns-4 sectors-requires sub-result returns-5)
+    (tie.spec returns returns-2 returns-3 returns-4 (λ c κs. search needs) (λ c. search needs) returns-5)

@@ -5,24 +5,9 @@ use borrow.Author.Needs.{needs}
 use Rattle.site.proofs.rules.row_sound.Statement.{statement}
 use Rattle.site.proofs.rules.row_sound.Tie as tie
 
-row-of-requires : tie.Need-row-of-requires
-row-of-requires c κs = search needs
-
-row-ranged-requires : tie.Need-row-ranged-requires
-row-ranged-requires c κs = search needs
-
 returns : tie.Need-returns
 unfolding sound
 returns c = rw (sym (ap ranged (c .before .before .row-of .ensures)) ∙ sym (c .before .row-ranged .ensures) ∙ not-true _ (c .if1 .taken))
-
-mul-spare-zero : tie.Need-mul-spare-zero
-mul-spare-zero c = search needs
-
-add-spare-zero : tie.Need-add-spare-zero
-add-spare-zero c = search needs
-
-spare-zero-requires : tie.Need-spare-zero-requires
-spare-zero-requires c κs = search needs
 
 returns-2 : tie.Need-returns-2
 unfolding sound
@@ -32,10 +17,10 @@ pub row-sound-spec : {M : Type 1} → statement M
 row-sound-spec =
     tie.close
     (tie.spec
-    row-of-requires
-    row-ranged-requires
+    (λ c κs. search needs)
+    (λ c κs. search needs)
     returns
-    mul-spare-zero
-    add-spare-zero
-    spare-zero-requires
+    (λ c. search needs)
+    (λ c. search needs)
+    (λ c κs. search needs)
     returns-2)

@@ -32,12 +32,6 @@ returns : tie.Need-returns Inv-loop μ-loop
 unfolding namedAt
 returns c = search-hit _ _ (c .before .before .before .before .loop .inv) (c .before .before .before .loop-test .taken) (ap (λ (l : List ℕ). sameName l (now (c .before .before .before .before .before .before .before .args .name))) (sym (c .before .before .name-at .ensures)) ∙ sym (c .before .same-name .ensures) ∙ c .if1 .taken)
 
-add-i : tie.Need-add-i Inv-loop μ-loop
-add-i c = omega arith
-
-loop-less : tie.Need-loop-less Inv-loop μ-loop
-loop-less c = omega arith
-
 loop-again : tie.Need-loop-again Inv-loop μ-loop
 unfolding namedAt
 loop-again c = search-on _ _ (c .before .before .before .before .loop .inv) (c .before .before .before .loop-test .taken) (ap (λ (l : List ℕ). sameName l (now (c .before .before .before .before .before .before .before .args .name))) (sym (c .before .before .name-at .ensures)) ∙ sym (c .before .same-name .ensures) ∙ c .if1 .left)
@@ -55,7 +49,7 @@ find-name-spec =
     name-at-requires
     same-name-requires
     returns
-    add-i
-    loop-less
+    (λ c. omega arith)
+    (λ c. omega arith)
     loop-again
     returns-2)

@@ -21,12 +21,6 @@ is-numbered-requires c κs = (c .before .before .before .pre .0, omega arith)
 returns : tie.Need-returns Inv-loop μ-loop
 returns c = search-hit _ _ (c .before .before .before .loop .inv) (c .before .before .loop-test .taken) (sym (c .before .is-numbered .ensures) ∙ c .if1 .taken)
 
-add-i : tie.Need-add-i Inv-loop μ-loop
-add-i c = omega arith
-
-loop-less : tie.Need-loop-less Inv-loop μ-loop
-loop-less c = omega arith
-
 loop-again : tie.Need-loop-again Inv-loop μ-loop
 loop-again c = search-on _ _ (c .before .before .before .loop .inv) (c .before .before .loop-test .taken) (sym (c .before .is-numbered .ensures) ∙ c .if1 .left)
 
@@ -42,7 +36,7 @@ find-number-spec =
     loop-holds
     is-numbered-requires
     returns
-    add-i
-    loop-less
+    (λ c. omega arith)
+    (λ c. omega arith)
     loop-again
     returns-2)

@@ -21,12 +21,6 @@ rows-overlap-requires c κs = ((c .before .before .before .pre .0 .0, c .before 
 returns : tie.Need-returns Inv-loop μ-loop
 returns c = search-hit _ _ (c .before .before .before .loop .inv) (c .before .before .loop-test .taken) (sym (c .before .rows-overlap .ensures) ∙ c .if1 .taken)
 
-add-j : tie.Need-add-j Inv-loop μ-loop
-add-j c = omega arith
-
-loop-less : tie.Need-loop-less Inv-loop μ-loop
-loop-less c = omega arith
-
 loop-again : tie.Need-loop-again Inv-loop μ-loop
 loop-again c = search-on _ _ (c .before .before .before .loop .inv) (c .before .before .loop-test .taken) (sym (c .before .rows-overlap .ensures) ∙ c .if1 .left)
 
@@ -42,7 +36,7 @@ find-overlap-spec =
     loop-holds
     rows-overlap-requires
     returns
-    add-j
-    loop-less
+    (λ c. omega arith)
+    (λ c. omega arith)
     loop-again
     returns-2)

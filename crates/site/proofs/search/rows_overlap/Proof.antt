@@ -12,39 +12,9 @@ use borrow.Author.Needs.{needs}
 use Rattle.site.proofs.search.rows_overlap.Statement.{statement}
 use Rattle.site.proofs.search.rows_overlap.Tie as tie
 
-mul-a : tie.Need-mul-a
-mul-a c = search needs
-
-add-a : tie.Need-add-a
-add-a c = search needs
-
-mul-b : tie.Need-mul-b
-mul-b c = search needs
-
-add-b : tie.Need-add-b
-add-b c = search needs
-
-add-if1 : tie.Need-add-if1
-add-if1 c = search needs
-
-shared-slice-read-if1 : tie.Need-shared-slice-read-if1
-shared-slice-read-if1 c = search needs
-
-add-if1-2 : tie.Need-add-if1-2
-add-if1-2 c = search needs
-
-shared-slice-read-if1-2 : tie.Need-shared-slice-read-if1-2
-shared-slice-read-if1-2 c = search needs
-
 returns : tie.Need-returns
 unfolding partitionsOverlap overlap rowAt
 returns c = rw (sym (c .before .before .before .before .pre .0 .0)) (rw (ne-eqb _ _ (c .if1 .taken)))
-
-row-of-requires : tie.Need-row-of-requires
-row-of-requires c κs = search needs
-
-row-of-requires-2 : tie.Need-row-of-requires-2
-row-of-requires-2 c κs = search needs
 
 rows-meet-requires : tie.Need-rows-meet-requires
 rows-meet-requires c κs = (rw (c .before .row-of .ensures) (c .before .before .before .before .before .before .pre .1 .0), rw (c .row-of2 .ensures) (c .before .before .before .before .before .before .pre .1 .1))
@@ -64,16 +34,16 @@ pub rows-overlap-spec : {M : Type 1} → statement M
 rows-overlap-spec =
     tie.close
     (tie.spec
-    mul-a
-    add-a
-    mul-b
-    add-b
-    add-if1
-    shared-slice-read-if1
-    add-if1-2
-    shared-slice-read-if1-2
+    (λ c. search needs)
+    (λ c. search needs)
+    (λ c. search needs)
+    (λ c. search needs)
+    (λ c. search needs)
+    (λ c. search needs)
+    (λ c. search needs)
+    (λ c. search needs)
     returns
-    row-of-requires
-    row-of-requires-2
+    (λ c κs. search needs)
+    (λ c κs. search needs)
     rows-meet-requires
     returns-2)

@@ -10,12 +10,6 @@ use borrow.Author.Needs.{needs}
 use Rattle.site.proofs.search.same_name.Statement.{statement}
 use Rattle.site.proofs.search.same_name.Tie as tie
 
-eight-at-requires : tie.Need-eight-at-requires
-eight-at-requires c κs = search needs
-
-eight-at-requires-2 : tie.Need-eight-at-requires-2
-eight-at-requires-2 c κs = search needs
-
 returns : tie.Need-returns
 unfolding sameName
 returns c =
@@ -26,4 +20,4 @@ returns c =
     ∙ same-low a b (λ i. c .before .before .before .shared-slice-known .given i .fits) (λ i. c .before .before .shared-slice-known2 .given i .fits) (s .pre .0 ∙ sym (s .pre .1))
 
 pub same-name-spec : {M : Type 1} → statement M
-same-name-spec = tie.close (tie.spec eight-at-requires eight-at-requires-2 returns)
+same-name-spec = tie.close (tie.spec (λ c κs. search needs) (λ c κs. search needs) returns)

@@ -3,12 +3,6 @@ use borrow.Author.Needs.{needs}
 use Rattle.site.proofs.sizes.is_inside.Statement.{statement}
 use Rattle.site.proofs.sizes.is_inside.Tie as tie
 
-cast-track : tie.Need-cast-track
-cast-track c = search needs
-
-tracks-requires : tie.Need-tracks-requires
-tracks-requires c κs = search needs
-
 returns : tie.Need-returns
 returns c = rw (le-ltb _ _ (rw (c .before .tracks .ensures .0) at (c .if1 .taken)))
 
@@ -19,4 +13,4 @@ returns-3 : tie.Need-returns-3
 returns-3 c = rw (lt-ltb _ _ (rw (c .before .before .tracks .ensures .0) at (c .before .if1 .left)), le-leb 1 _ (c .if2 .left))
 
 pub is-inside-spec : {M : Type 1} → statement M
-is-inside-spec = tie.close (tie.spec cast-track tracks-requires returns returns-2 returns-3)
+is-inside-spec = tie.close (tie.spec (λ c. search needs) (λ c κs. search needs) returns returns-2 returns-3)

@@ -8,9 +8,6 @@ use borrow.Author.Needs.{needs}
 use Rattle.site.proofs.sizes.tracks.Statement.{statement}
 use Rattle.site.proofs.sizes.tracks.Tie as tie
 
-shl-result : tie.Need-shl-result
-shl-result c = search needs
-
 doubled : (n : ℕ) → 1 ≤ n → 2 ^ n ≡ 2 * 2 ^ (n - 1)
 doubled n l =
     let next : n ≡ suc (n - 1) = omega arith in
@@ -25,4 +22,4 @@ returns c =
     (omega (arith, few, doubled n (c .pre .0)), omega (arith, few))
 
 pub tracks-spec : {M : Type 1} → statement M
-tracks-spec = tie.close (tie.spec shl-result returns)
+tracks-spec = tie.close (tie.spec (λ c. search needs) returns)

@@ -4,15 +4,9 @@ use borrow.Author.Needs.{needs}
 use Rattle.station.proofs.list.is_unused.Statement.{statement}
 use Rattle.station.proofs.list.is_unused.Tie as tie
 
-mul-result : tie.Need-mul-result
-mul-result c = search needs
-
-shared-slice-read-result : tie.Need-shared-slice-read-result
-shared-slice-read-result c = search needs
-
 returns : tie.Need-returns
 unfolding unused
 returns c = rw (place-length (c .before .args .list .now) (c .before .args .i))
 
 pub is-unused-spec : {M : Type 1} → statement M
-is-unused-spec = tie.close (tie.spec mul-result shared-slice-read-result returns)
+is-unused-spec = tie.close (tie.spec (λ c. search needs) (λ c. search needs) returns)

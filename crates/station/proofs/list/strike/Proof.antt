@@ -8,29 +8,14 @@ use borrow.Author.Needs.{needs}
 use Rattle.station.proofs.list.strike.Statement.{statement}
 use Rattle.station.proofs.list.strike.Tie as tie
 
-is-legal-requires : tie.Need-is-legal-requires
-is-legal-requires c κs = search needs
-
 returns : tie.Need-returns
 unfolding struck
 returns c = rw (sym (c .before .is-legal .ensures .answer) ∙ not-true _ (c .if1 .taken))
-
-find-requires : tie.Need-find-requires
-find-requires c κs = search needs
-
-strike-at-requires : tie.Need-strike-at-requires
-strike-at-requires c κs = search needs
-
-same-length : tie.Need-same-length
-same-length c = search needs
 
 returns-2 : tie.Need-returns-2
 unfolding struck isListed placeOf
 returns-2 c = rw (sym (c .before .before .before .before .before .before .before .before .is-legal .ensures .answer) ∙ not-false _ (c .before .before .before .before .before .before .before .if1 .left), found-if _ _ (rw (c .before .before .before .before .before .find .ensures) at (c .before .before .before .before .if2 .taken)))
     (c .before .before .strike-at .ensures ∙ ap (struckAt (now (c .before .before .before .before .before .before .before .before .before .before .args .list))) (c .before .before .before .before .before .find .ensures))
-
-same-length-2 : tie.Need-same-length-2
-same-length-2 c = search needs
 
 returns-3 : tie.Need-returns-3
 unfolding struck isListed
@@ -40,11 +25,11 @@ pub strike-spec : {M : Type 1} → statement M
 strike-spec =
     tie.close
     (tie.spec
-    is-legal-requires
+    (λ c κs. search needs)
     returns
-    find-requires
-    strike-at-requires
-    same-length
+    (λ c κs. search needs)
+    (λ c κs. search needs)
+    (λ c. search needs)
     returns-2
-    same-length-2
+    (λ c. search needs)
     returns-3)

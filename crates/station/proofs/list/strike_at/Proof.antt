@@ -12,33 +12,9 @@ use borrow.Author.Needs.{needs}
 use Rattle.station.proofs.list.strike_at.Statement.{statement}
 use Rattle.station.proofs.list.strike_at.Tie as tie
 
-mul-at : tie.Need-mul-at
-mul-at c = search needs
-
-sub-rest : tie.Need-sub-rest
-sub-rest c = search needs
-
-sub-rest-2 : tie.Need-sub-rest-2
-sub-rest-2 c = search needs
-
-slice-aggregate-put : tie.Need-slice-aggregate-put
-slice-aggregate-put c = search needs
-
-add-part : tie.Need-add-part
-add-part c = search needs
-
-part-requires : tie.Need-part-requires
-part-requires c κs = search needs
-
 put-requires : tie.Need-put-requires
 put-requires c κs = let a = c .before .before .before .before .args in
     omega (arith, ap length (c .part .ensures), length-part (now (a .list)) (14 * a .i + 14) (length (now (a .list)) - 14 * a .i - 14) (omega (arith, c .before .before .before .before .pre)), c .before .before .before .before .pre)
-
-add-moved : tie.Need-add-moved
-add-moved c = search needs
-
-array-share-prefix-moved : tie.Need-array-share-prefix-moved
-array-share-prefix-moved c = search needs
 
 slice-aggregate-put-2 : tie.Need-slice-aggregate-put-2
 slice-aggregate-put-2 c = sym (length-take-le _ (c .before .before .before .put .last .0) (omega (arith, c .before .before .before .put .kept .0, c .before .before .before .before .before .before .before .before .pre)))
@@ -46,9 +22,6 @@ slice-aggregate-put-2 c = sym (length-take-le _ (c .before .before .before .put 
 put-requires-2 : tie.Need-put-requires-2
 put-requires-2 c κs = let a = c .before .before .before .before .before .before .before .before .args in
     omega (arith, length-take-le (length (now (a .list)) - 14 * a .i - 14 + 14) (c .before .before .before .put .last .0) (omega (arith, c .before .before .before .put .kept .0, c .before .before .before .before .before .before .before .before .pre)), c .before .before .before .before .before .before .before .before .pre)
-
-same-length : tie.Need-same-length
-same-length c = search needs
 
 returns : tie.Need-returns
 returns c = let a = c .before .before .before .before .before .before .before .before .before .before .before .args in
@@ -61,16 +34,16 @@ pub strike-at-spec : {M : Type 1} → statement M
 strike-at-spec =
     tie.close
     (tie.spec
-    mul-at
-    sub-rest
-    sub-rest-2
-    slice-aggregate-put
-    add-part
-    part-requires
+    (λ c. search needs)
+    (λ c. search needs)
+    (λ c. search needs)
+    (λ c. search needs)
+    (λ c. search needs)
+    (λ c κs. search needs)
     put-requires
-    add-moved
-    array-share-prefix-moved
+    (λ c. search needs)
+    (λ c. search needs)
     slice-aggregate-put-2
     put-requires-2
-    same-length
+    (λ c. search needs)
     returns)

@@ -19,24 +19,12 @@ abbrev μ-loop : tie.MeasureT-loop
 loop-holds : tie.Need-loop-holds Inv-loop μ-loop
 loop-holds c = pass-starts _ _
 
-mul-part : tie.Need-mul-part Inv-loop μ-loop
-mul-part c = omega arith
-
-part-requires : tie.Need-part-requires Inv-loop μ-loop
-part-requires c κs = omega arith
-
 place-good-requires : tie.Need-place-good-requires Inv-loop μ-loop
 place-good-requires c κs = ap length (c .part .ensures) ∙ length-part (now (c .before .before .before .before .args .list)) (14 * c .before .before .loop .i) 14 (omega arith)
 
 returns : tie.Need-returns Inv-loop μ-loop
 unfolding goodAt
 returns c = pass-breaks _ _ (c .before .before .before .loop-test .taken) (ap goodPlace (sym (c .before .before .part .ensures)) ∙ sym (c .before .place-good .ensures) ∙ not-true _ (c .if1 .taken))
-
-add-i : tie.Need-add-i Inv-loop μ-loop
-add-i c = omega arith
-
-loop-less : tie.Need-loop-less Inv-loop μ-loop
-loop-less c = omega arith
 
 loop-again : tie.Need-loop-again Inv-loop μ-loop
 unfolding goodAt
@@ -52,11 +40,11 @@ places-good-spec =
     Inv-loop
     μ-loop
     loop-holds
-    mul-part
-    part-requires
+    (λ c. omega arith)
+    (λ c κs. omega arith)
     place-good-requires
     returns
-    add-i
-    loop-less
+    (λ c. omega arith)
+    (λ c. omega arith)
     loop-again
     returns-2)

@@ -8,9 +8,6 @@ use borrow.Author.Needs.{needs}
 use Rattle.station.proofs.rules.wait_good.Statement.{statement}
 use Rattle.station.proofs.rules.wait_good.Tie as tie
 
-shared-slice-read-code : tie.Need-shared-slice-read-code
-shared-slice-read-code c = search needs
-
 returns : tie.Need-returns
 unfolding goodWait codeIn
 returns c = rw (eq-eqb _ _ (c .if1 .taken))
@@ -22,12 +19,6 @@ returns-2 c = rw (ne-eqb _ _ (c .before .if1 .left), eq-eqb _ _ (c .if2 .taken))
 returns-3 : tie.Need-returns-3
 unfolding goodWait codeIn
 returns-3 c = rw (ne-eqb _ _ (c .before .before .before .if1 .left), ne-eqb _ _ (c .before .before .if2 .left), ne-eqb _ _ (c .before .if3 .taken), ne-eqb _ _ (c .if4 .taken))
-
-part-requires : tie.Need-part-requires
-part-requires c κs = search needs
-
-is-zero-requires : tie.Need-is-zero-requires
-is-zero-requires c κs = search needs
 
 returns-4 : tie.Need-returns-4
 unfolding goodWait codeIn
@@ -41,10 +32,10 @@ pub wait-good-spec : {M : Type 1} → statement M
 wait-good-spec =
     tie.close
     (tie.spec
-    shared-slice-read-code
+    (λ c. search needs)
     returns
     returns-2
     returns-3
-    part-requires
-    is-zero-requires
+    (λ c κs. search needs)
+    (λ c κs. search needs)
     returns-4)

@@ -5,15 +5,9 @@ use borrow.Author.Needs.{needs}
 use Rattle.who.proofs.lent.is_good.Statement.{statement}
 use Rattle.who.proofs.lent.is_good.Tie as tie
 
-counts-good-requires : tie.Need-counts-good-requires
-counts-good-requires c κs = search needs
-
 returns : tie.Need-returns
 unfolding goodStation
 returns c = rw (sym (c .before .counts-good .ensures) ∙ not-true _ (c .if1 .taken))
-
-is-plain-requires : tie.Need-is-plain-requires
-is-plain-requires c κs = search needs
 
 returns-2 : tie.Need-returns-2
 unfolding goodStation plain
@@ -22,9 +16,6 @@ returns-2 c = rw (sym (c .before .before .before .before .counts-good .ensures) 
 returns-3 : tie.Need-returns-3
 unfolding goodStation
 returns-3 c = rw (sym (c .before .before .before .counts-good .ensures) ∙ not-false _ (c .before .before .if1 .left), eq-eqb _ _ (c .before .if2 .taken), c .if3 .left)
-
-is-plain-requires-2 : tie.Need-is-plain-requires-2
-is-plain-requires-2 c κs = search needs
 
 returns-4 : tie.Need-returns-4
 unfolding goodStation
@@ -38,11 +29,11 @@ pub is-good-spec : {M : Type 1} → statement M
 is-good-spec =
     tie.close
     (tie.spec
-    counts-good-requires
+    (λ c κs. search needs)
     returns
-    is-plain-requires
+    (λ c κs. search needs)
     returns-2
     returns-3
-    is-plain-requires-2
+    (λ c κs. search needs)
     returns-4
     returns-5)

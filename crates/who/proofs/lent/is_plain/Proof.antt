@@ -13,21 +13,9 @@ returns-2 : tie.Need-returns-2
 unfolding plain
 returns-2 c = rw (eq-eqb _ _ (c .before .before .if1 .left), ne-eqb _ _ (c .if2 .taken))
 
-slice-aggregate-is-zero : tie.Need-slice-aggregate-is-zero
-slice-aggregate-is-zero c = search needs
-
-is-zero-requires : tie.Need-is-zero-requires
-is-zero-requires c κs = search needs
-
 returns-3 : tie.Need-returns-3
 unfolding plain
 returns-3 c = rw (eq-eqb _ _ (c .before .before .before .before .before .before .if1 .left), eq-eqb _ _ (c .before .before .before .before .if2 .left), sym (c .before .is-zero .ensures .answer) ∙ not-true _ (c .if3 .taken))
-
-slice-aggregate-is-zero-2 : tie.Need-slice-aggregate-is-zero-2
-slice-aggregate-is-zero-2 c = search needs
-
-is-zero-requires-2 : tie.Need-is-zero-requires-2
-is-zero-requires-2 c κs = search needs
 
 returns-4 : tie.Need-returns-4
 unfolding plain
@@ -47,11 +35,11 @@ is-plain-spec =
     (tie.spec
     returns
     returns-2
-    slice-aggregate-is-zero
-    is-zero-requires
+    (λ c. search needs)
+    (λ c κs. search needs)
     returns-3
-    slice-aggregate-is-zero-2
-    is-zero-requires-2
+    (λ c. search needs)
+    (λ c κs. search needs)
     returns-4
     returns-5
     returns-6)

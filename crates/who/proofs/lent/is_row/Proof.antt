@@ -28,12 +28,6 @@ returns-2 : tie.Need-returns-2 Inv-loop μ-loop
 unfolding isRow
 returns-2 c = record { answer = rw (eq-eqb _ _ (c .before .before .before .before .if1 .left)) (pass-breaks _ _ (c .before .before .loop-test .taken) (sym (c .before .is-flagged .ensures) ∙ not-true _ (c .if2 .taken))) }
 
-add-n : tie.Need-add-n Inv-loop μ-loop
-add-n c = omega arith
-
-loop-less : tie.Need-loop-less Inv-loop μ-loop
-loop-less c = omega arith
-
 loop-again : tie.Need-loop-again Inv-loop μ-loop
 loop-again c = pass-on _ _ (c .before .before .before .loop .inv) (c .before .before .loop-test .taken) (sym (c .before .is-flagged .ensures) ∙ not-false _ (c .if2 .left))
 
@@ -51,7 +45,7 @@ is-row-spec =
     loop-holds
     is-flagged-requires
     returns-2
-    add-n
-    loop-less
+    (λ c. omega arith)
+    (λ c. omega arith)
     loop-again
     returns-3)

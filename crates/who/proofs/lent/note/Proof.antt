@@ -11,29 +11,17 @@ returns : tie.Need-returns
 unfolding noted
 returns c = rw (not-true (c .before .before .args .rest .good) (c .if1 .taken))
 
-is-good-requires : tie.Need-is-good-requires
-is-good-requires c κs = search needs
-
 returns-2 : tie.Need-returns-2
 unfolding noted
 returns-2 c = rw (not-false (c .before .before .before .before .args .rest .good) (c .before .before .if1 .left), sym (c .before .is-good .ensures) ∙ not-true _ (c .if2 .taken))
 
-mul-t6 : tie.Need-mul-t6
-mul-t6 c = search needs
-
-add-t7 : tie.Need-add-t7
-add-t7 c = search needs
-
 returns-3 : tie.Need-returns-3
 unfolding noted flag goodStation
 returns-3 c = rw (not-false (c .before .before .before .before .before .before .args .rest .good) (c .before .before .before .before .if1 .left), sym (c .before .before .before .is-good .ensures) ∙ not-false _ (c .before .before .if2 .left), c .before .if3 .taken)
-
-mul-t8 : tie.Need-mul-t8
-mul-t8 c = search needs
 
 returns-4 : tie.Need-returns-4
 unfolding noted flag goodStation
 returns-4 c = rw (not-false (c .before .before .before .before .before .before .args .rest .good) (c .before .before .before .before .if1 .left), sym (c .before .before .before .is-good .ensures) ∙ not-false _ (c .before .before .if2 .left), c .before .if3 .left, zero-add)
 
 pub note-spec : {M : Type 1} → statement M
-note-spec = tie.close (tie.spec returns is-good-requires returns-2 mul-t6 add-t7 returns-3 mul-t8 returns-4)
+note-spec = tie.close (tie.spec returns (λ c κs. search needs) returns-2 (λ c. search needs) (λ c. search needs) returns-3 (λ c. search needs) returns-4)

@@ -21,26 +21,8 @@ Inv-loop records row₀ n₀ row n = (n ≤ numbers) × (row ≡ build (λ k. st
 abbrev μ-loop : tie.MeasureT-loop
 μ-loop records row₀ n₀ row n = numbers - n
 
-vacant-requires : tie.Need-vacant-requires Inv-loop μ-loop
-vacant-requires c κs = search needs
-
 loop-holds : tie.Need-loop-holds Inv-loop μ-loop
 loop-holds c = (omega arith, build-none _ _)
-
-station-at-requires : tie.Need-station-at-requires Inv-loop μ-loop
-station-at-requires c κs = omega arith
-
-mul-row : tie.Need-mul-row Inv-loop μ-loop
-mul-row c = search needs
-
-array-set-from-row : tie.Need-array-set-from-row Inv-loop μ-loop
-array-set-from-row c = search needs
-
-add-n : tie.Need-add-n Inv-loop μ-loop
-add-n c = omega arith
-
-loop-less : tie.Need-loop-less Inv-loop μ-loop
-loop-less c = omega arith
 
 loop-again : tie.Need-loop-again Inv-loop μ-loop
 loop-again c = (omega arith, ap (λ (l : List Station). set l (c .before .before .loop .n) (c .station-at .result)) (c .before .before .loop .inv .1) ∙ rw (c .station-at .ensures) (build-store _ _ (c .before .before .loop .n) (c .before .loop-test .taken)))
@@ -55,12 +37,12 @@ row-of-spec =
     (tie.spec
     Inv-loop
     μ-loop
-    vacant-requires
+    (λ c κs. search needs)
     loop-holds
-    station-at-requires
-    mul-row
-    array-set-from-row
-    add-n
-    loop-less
+    (λ c κs. omega arith)
+    (λ c. search needs)
+    (λ c. search needs)
+    (λ c. omega arith)
+    (λ c. omega arith)
     loop-again
     returns)
