@@ -8,6 +8,7 @@ use borrow.Author.Tests.{eq-eqb}
 use Rattle.rows.proofs.BoolLaws.{by-eq, both}
 use Rattle.terms.specs.declared.LockString.{LockString}
 use Rattle.frames.specs.Table.{LOGOUT}
+use Rattle.frames.specs.Reading.{code}
 use Rattle.who.specs.Logins.{loggedIn}
 use Rattle.locks.specs.Table.{rowCount}
 use Rattle.locks.specs.Holding.{has}
@@ -23,7 +24,7 @@ use Rattle.station.specs.Replies.{replyRefusal, Replies}
 use Rattle.station.proofs.ListedLaws.{listed-none}
 use Rattle.station.proofs.Keeps as keeps
 use Rattle.exchange.specs.Runs.{Event, frame, turn, Run, start, _then_, after, tables, answerIn}
-use Rattle.exchange.specs.Following.{sideFrame, sent, Follows, logs-in, others, polled, asks-lock, asks-unlock, asks-clear, sends, hears, sides, logs-out}
+use Rattle.exchange.specs.Following.{sideFrame, sent, Follows, logs-in, others, polled, asks-lock, asks-unlock, asks-clear, sends, hears, sides, logout-refused}
 use Rattle.exchange.proofs.OwnFrames.{Leaving, stayed, left, own-logout, side-stays}
 use Rattle.exchange.proofs.Settling.{Settles, Exchange, unserved, settles, own-exchange}
 use Rattle.exchange.proofs.Agreement.{agrees-still, same-agrees, lost-agrees}
@@ -78,11 +79,11 @@ module _ (k : ℕ) where
       goes-on h (frame k f s) st i (rw (stays .1) (i .inside)) (λ x. rw (stays .0))
 
   -- a logout that is not refused logs it out
-  logout-on : (h : Run) (st s : List ℕ) → loggedIn (tables (h then frame k (LOGOUT ∷ k ∷ []) s) .records) k ≡ true → At h st → At (h then frame k (LOGOUT ∷ k ∷ []) s) st
+  logout-on : (h : Run) (st f s : List ℕ) → code f ≡ LOGOUT → loggedIn (tables (h then frame k f s) .records) k ≡ true → At h st → At (h then frame k f s) st
   unfolding tables after
-  logout-on h st s in-now i = goes-on h (frame k (LOGOUT ∷ k ∷ []) s) st i in-now (go (own-logout k (LOGOUT ∷ k ∷ []) s _ _ refl) in-now)
+  logout-on h st f s e in-now i = goes-on h (frame k f s) st i in-now (go (own-logout k f s _ _ e) in-now)
     where
-      go : {t′ w′ : List ℕ} → Leaving k (LOGOUT ∷ k ∷ []) s (tables h .locks) (tables h .records) t′ w′ → loggedIn w′ k ≡ true → (y : LockString) → has t′ k y ≡ has (tables h .locks) k y
+      go : {t′ w′ : List ℕ} → Leaving k f s (tables h .locks) (tables h .records) t′ w′ → loggedIn w′ k ≡ true → (y : LockString) → has t′ k y ≡ has (tables h .locks) k y
       go stayed _ y = refl
       go left in-then y = both in-then (logout-out _ _ (run-good h) k (i .inside) k ∙ rw (eq-eqb k k refl))
 
@@ -141,4 +142,4 @@ module _ (k : ℕ) where
   invariant (sends {h} {at} {st} b s d) = let i = invariant d in lost i (own-table h st i b s)
   invariant (hears {h} {at} {st} b s status r st′ e a d) = heard-on h st (invariant d) b s status r st′ e a
   invariant (sides {h} {at} {st} f s y d) = sides-on h st f s y (invariant d)
-  invariant (logs-out {h} {at} {st} s idle in-now d) = logout-on h st s in-now (invariant d)
+  invariant (logout-refused {h} {at} {st} f s e in-now d) = logout-on h st f s e in-now (invariant d)

@@ -6,7 +6,7 @@ use mathlib.Core.List.{List}
 use Rattle.rows.proofs.BoolLaws.{both}
 use Rattle.who.specs.Logins.{loggedIn}
 use Rattle.exchange.specs.Runs.{Event, Run, _then_, size, tables}
-use Rattle.exchange.specs.Following.{Follows, logs-in, others, polled, asks-lock, asks-unlock, asks-clear, sends, hears, sides, logs-out}
+use Rattle.exchange.specs.Following.{Follows, logs-in, others, polled, asks-lock, asks-unlock, asks-clear, sends, hears, sides, logout-refused}
 use Rattle.exchange.proofs.Invariant.{invariant, begins}
 
 -- k was out until the event with index `at`, and in ever after
@@ -24,7 +24,7 @@ since (asks-clear r st′ a d) = since d
 since {k} (sends {h} b s d) = on h _ (invariant k d .inside) (since d)
 since {k} (hears {h} b s status r st′ e a d) = on h _ (invariant k d .inside) (since d)
 since {k} (sides {h} f s y d) = on h _ (invariant k d .inside) (since d)
-since {k} (logs-out {h} s idle in-now d) = on h _ (invariant k d .inside) (since d)
+since {k} (logout-refused {h} f s e in-now d) = on h _ (invariant k d .inside) (since d)
 
 since-one : {k a b : ℕ} {h : Run} → Since k a h → Since k b h → a ≡ b
 since-one (begun h e p out) (begun h′ e′ q out′) = sym p ∙ q

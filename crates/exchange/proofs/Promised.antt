@@ -1,7 +1,7 @@
 -- Demand 3 is kept.
 use Prim.Native.Nat.{ℕ, _≤_}
-use mathlib.Core.Path.{_≡_, sym, subst, _∙_}
-use mathlib.Core.Bool.{true, false}
+use mathlib.Core.Path.{_≡_, sym, ap₂, subst, _∙_}
+use mathlib.Core.Bool.{Bool, true, false}
 use mathlib.Core.List.{List, [], _∷_}
 use lib.ListN.{length}
 use borrow.Author.Tests.{eqb-true, not-false}
@@ -10,12 +10,16 @@ use Rattle.terms.specs.declared.LockString.{LockString}
 use Rattle.site.specs.Rules.{goodSite}
 use Rattle.locks.specs.Holding.{has}
 use Rattle.locks.proofs.HoldingLaws.{one-holder}
-use Rattle.master.specs.Answers.{answers}
+use Rattle.master.specs.declared.Answer.{Answer}
+use Rattle.master.specs.declared.Turned.{Turned}
+use Rattle.master.specs.Answers.{answers, told}
+use Rattle.master.specs.Frames.{frameTold, Serves}
+use Rattle.master.specs.Polls.{turnTold, pollTold, Polls}
 use Rattle.station.specs.State.{listOf, waitOf, isListed, codeIn}
 use Rattle.station.specs.Asks.{waits}
 use Rattle.station.specs.Replies.{replyRefusal, Replies}
 use Rattle.station.proofs.Keeps.{reply-wait}
-use Rattle.exchange.specs.Runs.{Run, after, tables, answerIn, Played, fresh, serve, poll-turn}
+use Rattle.exchange.specs.Runs.{Run, after, tables, answerIn, turnIn, Played, fresh, serve, poll-turn}
 use Rattle.exchange.specs.Following.{sent, Follows}
 use Rattle.exchange.specs.Promise.{holds, lists, Promise}
 use Rattle.exchange.proofs.Settling.{own-answer}
@@ -52,6 +56,15 @@ by-entries (fresh t w t′ w′ r ok a) = (a .locks ∙ rw ok, a .records ∙ rw
 by-entries (serve n f s t′ w′ r a d) = let e = by-entries d in (a .locks ∙ rw (e .0, e .1), a .records ∙ rw (e .0, e .1))
 by-entries (poll-turn n heard t′ w′ r a d) = let e = by-entries d in (a .locks ∙ rw (e .0, e .1), a .records ∙ rw (e .0, e .1))
 
+-- and what they answer
+frame-tells : {h : Run} {t w : List ℕ} → Played h t w → (n : ℕ) (f s t′ w′ : List ℕ) (r : Answer) → Serves n f s t w r t′ w′ → told r ≡ answerIn h n f s
+unfolding answerIn
+frame-tells d n f s t′ w′ r a = let e = by-entries d in a .answer ∙ ap₂ (λ (x y : List ℕ). frameTold n f s x y) (e .0) (e .1)
+
+turn-tells : {h : Run} {t w : List ℕ} → Played h t w → (n : ℕ) (heard : Bool) (t′ w′ : List ℕ) (r : Turned) → Polls n heard t w r t′ w′ → turnTold r ≡ turnIn h n heard
+unfolding turnIn
+turn-tells d n heard t′ w′ r a = let e = by-entries d in a .answer ∙ ap₂ (λ (x y : List ℕ). pollTold n heard x y) (e .0) (e .1)
+
 pub promise : Promise
 unfolding holds lists
 promise = record {
@@ -65,4 +78,6 @@ promise = record {
   tables-good = run-good;
   state-good = λ {k} d. invariant k d .state-good;
   played = by-entries;
+  frame-told = frame-tells;
+  turn-told = turn-tells;
 }

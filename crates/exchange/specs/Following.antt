@@ -5,7 +5,9 @@
 -- each login is a station of its own.
 --
 -- Losses. A request that is lost reaches nobody: no event, and the station's state stays. A reply that is lost is `sends`: the master
--- has served the frame, and the station's state stays. Only `hears` takes a reply, in the exchange of its own frame.
+-- has served the frame, and the station's state stays. Only `hears` takes a reply, in the exchange of its own frame. A login whose
+-- reply is lost has logged in a number that no station knows: nobody follows it, and silence logs it out. A logout that is lost is
+-- no event: the station has stopped, and its number stays logged in, with what it held, until silence logs it out.
 --
 -- A station that logs out, resets or logs in again does nothing more under k. What it leaves behind is its state as it was, until the
 -- master logs k out. The relation allows more than the rules do where that costs nothing: an ask while it waits, which is refused,
@@ -22,7 +24,7 @@ use Rattle.frames.specs.Reading.{code}
 use Rattle.who.specs.Logins.{loggedIn}
 use Rattle.master.specs.Answers.{answers}
 use Rattle.master.specs.Refusals.{ANYBODY}
-use Rattle.station.specs.Asks.{waits, afterLock, afterUnlock, afterClear, Asks, freshState, sentOf, bufferAfter}
+use Rattle.station.specs.Asks.{afterLock, afterUnlock, afterClear, Asks, freshState, sentOf, bufferAfter}
 use Rattle.station.specs.Replies.{Replies}
 use Rattle.exchange.specs.Runs.{frame, turn, Run, _then_, size, tables, answerIn}
 
@@ -62,6 +64,6 @@ pub data Follows (k : ℕ) : Run → ℕ → List ℕ → Type 0 where
   -- it acknowledges, reads, writes or assigns; what comes back is no reply here
   sides : {h : Run} {at : ℕ} {st : List ℕ} (f s : List ℕ) → sideFrame f ≡ true
       → Follows k h at st → Follows k (h then frame k f s) at st
-  -- it logs out while it waits for nothing; where the master refuses the frame it is still logged in
-  logs-out : {h : Run} {at : ℕ} {st : List ℕ} (s : List ℕ) → waits st ≡ false → loggedIn (tables (h then frame k (LOGOUT ∷ k ∷ []) s) .records) k ≡ true
-      → Follows k h at st → Follows k (h then frame k (LOGOUT ∷ k ∷ []) s) at st
+  -- it sends a logout that the master refuses, so that it is still logged in
+  logout-refused : {h : Run} {at : ℕ} {st : List ℕ} (f s : List ℕ) → code f ≡ LOGOUT → loggedIn (tables (h then frame k f s) .records) k ≡ true
+      → Follows k h at st → Follows k (h then frame k f s) at st
