@@ -9,4 +9,5 @@ pub mod Logins
 pub mod Promised
 pub mod Told
 pub mod Silences
+pub mod SilentTurns
 pub mod Happened

@@ -1,13 +1,19 @@
 -- What the master's tables say of one number, and what a login and a poll turn do to it.
-use Prim.Native.Nat.{ℕ}
+use Prim.Native.Nat.{ℕ, _*_, _<_}
 use native.Mathlib.Omega.{arith}
-use mathlib.Core.Path.{_≡_, refl, sym, _∙_}
+use mathlib.Core.Path.{_≡_, refl, sym, ap, _∙_}
 use mathlib.Core.Bool.{Bool, true, false}
 use mathlib.Core.List.{List}
+use lib.ListN.{length}
 use borrow.Author.Tests.{eq-eqb}
 use Rattle.rows.proofs.BoolLaws.{both, refuted}
+use Rattle.rows.proofs.RowLaws.{row-setRow}
 use Rattle.terms.specs.declared.LockString.{LockString}
-use Rattle.who.specs.Logins.{loggedIn, lowestFree}
+use Rattle.who.specs.declared.Station.{Station}
+use Rattle.who.specs.Records.{bytesOf}
+use Rattle.who.specs.Good.{numbers}
+use Rattle.who.specs.Logins.{loggedIn, lowestFree, loggedInAs, afterLogin}
+use Rattle.who.proofs.RecordLaws.{length-bytesOf, station-back}
 use Rattle.who.proofs.WhoLaws.{good-is, logged-below, lowest-free-is}
 use Rattle.locks.specs.Good.{locks, goodLocks}
 use Rattle.locks.specs.Holding.{has}
@@ -15,6 +21,7 @@ use Rattle.locks.proofs.GoodLaws as tableLaws
 use Rattle.locks.proofs.HoldingLaws.{held-in}
 use Rattle.master.specs.Tables.{goodTables}
 use Rattle.master.specs.Answers.{Told}
+use Rattle.master.specs.Polls.{stationAt}
 use Rattle.master.proofs.Deeds.{records-good, locks-good, loginNumber, Deed, refused, quiet, logged-in, locked, unlocked, cleared, logged-out}
 use Rattle.master.proofs.Keeps.{login-in, logout-out}
 use Rattle.master.proofs.PollKeeps.{TurnDeed}
@@ -32,19 +39,33 @@ module _ (t w : List ℕ) (good : goodTables t w ≡ true) where
   pub no-mark : (k : ℕ) → loggedIn w k ≡ true → k ≡ 0xFF → ⊥
   no-mark k i e = omega (arith, logged-below w (good-is w (records-good t w good) .sized) k i)
 
-  -- a login takes a number that was out, and leaves the lock table
+  -- a login takes a number that was out, without misses and slow turns, and leaves the lock table
   pub record Enters (k : ℕ) (t′ w′ : List ℕ) : Type 0 where
     pub was-out : loggedIn w k ≡ false
     pub is-in : loggedIn w′ k ≡ true
+    pub no-misses : stationAt w′ k .misses ≡ 0
+    pub no-slow : stationAt w′ k .slow ≡ 0
     pub same-locks : t′ ≡ t
 
+  sized : length w ≡ 18 * numbers
+  sized = good-is w (records-good t w good) .sized
+
+  entered : lowestFree w < numbers → (name serial : List ℕ) (product : ℕ) (found : Bool) → length name ≡ 8 → length serial ≡ 4
+      → stationAt (afterLogin w (lowestFree w) (loggedInAs name serial product found)) (lowestFree w) ≡ loggedInAs name serial product found
+  unfolding stationAt afterLogin loggedInAs
+  entered free name serial product found n8 s4 =
+      let s = loggedInAs name serial product found in
+      rw (row-setRow 18 numbers w (omega (arith, sized)) (lowestFree w) free (bytesOf s) (length-bytesOf s n8 s4)) (station-back s n8 s4 (omega arith))
+
   pub enters : (n k : ℕ) (f s : List ℕ) (a : Told) (t′ w′ : List ℕ) → Deed n f s t w a t′ w′ → loginNumber a ≡ k → (k ≡ 0 → ⊥) → Enters k t′ w′
-  unfolding loginNumber
+  unfolding loginNumber loggedInAs
   enters n k f s a t′ w′ (refused j ne) e nz = absurd (nz (sym e))
   enters n k f s a t′ w′ (quiet vs z) e nz = absurd (nz (sym e ∙ z))
   enters n k f s a t′ w′ (logged-in at free name serial product found n8 s4) e nz = record {
-    was-out = rw (← e) (lowest-free-is w (good-is w (records-good t w good) .sized) free .1);
+    was-out = rw (← e) (lowest-free-is w sized free .1);
     is-in = login-in t w good free name serial product found n8 s4 k ∙ rw (eq-eqb k (lowestFree w) (sym e));
+    no-misses = rw (← e) (ap (λ (x : Station). x .misses) (entered free name serial product found n8 s4));
+    no-slow = rw (← e) (ap (λ (x : Station). x .slow) (entered free name serial product found n8 s4));
     same-locks = refl;
   }
   enters n k f s a t′ w′ (locked i x b) e nz = absurd (nz (sym e))

@@ -3,21 +3,23 @@ use Prim.Native.Nat.{ℕ, zero, suc, _*_, _<_}
 use native.Mathlib.Omega.{arith}
 use mathlib.Core.Path.{_≡_, refl, _∙_}
 use mathlib.Core.Bool.{true, false}
-use mathlib.Core.List.{List}
+use mathlib.Core.List.{List, [], _∷_}
 use lib.ListN.{length}
 use borrow.Author.Tests.{eq-eqb, ne-eqb}
 use Rattle.who.specs.Good.{goodCounts, numbers}
 use Rattle.who.specs.Logins.{loggedIn}
-use Rattle.who.specs.Turns.{missesAfter, slowAfter, isOut}
+use Rattle.who.specs.Records.{flag}
+use Rattle.who.specs.Turns.{isDue, missesAfter, slowAfter, isOut}
 use Rattle.who.proofs.TurnLaws.{turnsLeft, out-last, silent-left, turn-good}
 use Rattle.who.proofs.WhoLaws.{good-is, logged-below}
 use Rattle.master.specs.Tables.{goodTables}
 use Rattle.master.specs.Refusals.{ANYBODY, unknown}
-use Rattle.master.specs.Polls.{stationAt, outAt, withCounts, afterTurn, turnRecords, pollRefusal, pollRecords}
+use Rattle.master.specs.Answers.{answers}
+use Rattle.master.specs.Polls.{stationAt, dueAt, outAt, withCounts, afterTurn, turnRecords, pollRefusal, pollTold, pollRecords}
 use Rattle.master.proofs.Deeds.{records-good}
 use Rattle.master.proofs.Keeps.{logout-out}
 use Rattle.master.proofs.PollKeeps.{turned-logged, turned-station}
-use Rattle.exchange.specs.Runs.{turn, Run, _then_, after, tables}
+use Rattle.exchange.specs.Runs.{turn, Run, _then_, after, tables, turnIn}
 use Rattle.exchange.specs.Following.{Follows, polled}
 use Rattle.exchange.specs.Story.{silent}
 use Rattle.exchange.proofs.Invariant.{run-good}
@@ -38,9 +40,17 @@ module _ (k : ℕ) (nz : k ≡ 0 → ⊥) where
     below : k < numbers
     below = logged-below w sized k in-now
 
+    taken : pollRefusal k false t w ≡ 0
+    unfolding pollRefusal unknown
+    taken = rw (good, in-now, ne-eqb k 0 nz, ne-eqb k ANYBODY (λ (e : k ≡ ANYBODY). omega (arith, below)))
+
+    tells : pollTold k false t w ≡ answers (flag (dueAt w k) ∷ flag (outAt w k false) ∷ [])
+    unfolding pollTold
+    tells = rw taken
+
     unheard : pollRecords k false t w ≡ turnRecords k false w
-    unfolding pollRecords pollRefusal unknown
-    unheard = rw (good, in-now, ne-eqb k 0 nz, ne-eqb k ANYBODY (λ (e : k ≡ ANYBODY). omega (arith, below)))
+    unfolding pollRecords
+    unheard = rw taken
 
     drops : outAt w k false ≡ true → loggedIn (pollRecords k false t w) k ≡ false
     unfolding turnRecords
@@ -56,12 +66,16 @@ module _ (k : ℕ) (nz : k ≡ 0 → ⊥) where
     turned-to on = rw (unheard, on) (turned-station k false t w good in-now on)
 
   module _ {m s : ℕ} {h : Run} (st : Stands k m s h) where
+    due-is : dueAt (tables h .records) k ≡ isDue m s
+    unfolding dueAt
+    due-is = rw (st .misses, st .slow)
+
     out-is : outAt (tables h .records) k false ≡ isOut m s false
     unfolding outAt
     out-is = rw (st .misses, st .slow)
 
     -- a turn that is not heard, and that is not the last one
-    next : isOut m s false ≡ false → Stands k (missesAfter m s false) (slowAfter m s) (h then turn k false)
+    pub next : isOut m s false ≡ false → Stands k (missesAfter m s false) (slowAfter m s) (h then turn k false)
     unfolding tables after afterTurn withCounts
     next on =
         let now = turned-to _ _ (run-good h) (st .inside) (out-is ∙ on) in record {
@@ -72,12 +86,16 @@ module _ (k : ℕ) (nz : k ≡ 0 → ⊥) where
         }
 
     -- the last one
-    last : isOut m s false ≡ true → loggedIn (tables (h then turn k false) .records) k ≡ false
+    pub last : isOut m s false ≡ true → loggedIn (tables (h then turn k false) .records) k ≡ false
     unfolding tables after
     last out = drops _ _ (run-good h) (st .inside) (out-is ∙ out)
 
-    on-yet : (j : ℕ) → suc j < turnsLeft m s → isOut m s false ≡ false
+    pub on-yet : (j : ℕ) → suc j < turnsLeft m s → isOut m s false ≡ false
     on-yet j l = out-last m s (st .counts) ∙ ne-eqb (turnsLeft m s) 1 (λ e. omega arith)
+
+    pub turn-tells : turnIn h k false ≡ answers (flag (isDue m s) ∷ flag (isOut m s false) ∷ [])
+    unfolding turnIn
+    turn-tells = tells _ _ (run-good h) (st .inside) ∙ rw (due-is, out-is)
 
   pub silent-follows : (j : ℕ) {m s at : ℕ} {h : Run} {st : List ℕ} → Stands k m s h → j < turnsLeft m s → Follows k h at st → Follows k (silent k j h) at st
   unfolding silent

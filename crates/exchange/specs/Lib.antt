@@ -1,4 +1,5 @@
 pub mod Runs
 pub mod Following
 pub mod Promise
+pub mod Silence
 pub mod Story
