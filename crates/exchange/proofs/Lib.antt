@@ -6,6 +6,7 @@ pub mod OneNumber
 pub mod Steps
 pub mod Invariant
 pub mod Logins
+pub mod Playing
 pub mod Promised
 pub mod Told
 pub mod Silences

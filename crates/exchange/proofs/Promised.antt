@@ -23,6 +23,7 @@ use Rattle.exchange.specs.Runs.{Run, after, tables, answerIn, turnIn, Pl
 use Rattle.exchange.specs.Following.{sent, Follows}
 use Rattle.exchange.specs.Promise.{holds, lists, Promise}
 use Rattle.exchange.proofs.Settling.{own-answer}
+use Rattle.exchange.proofs.Playing.{playable}
 use Rattle.exchange.proofs.Agreement.{agree-same}
 use Rattle.exchange.proofs.OneNumber.{table, no-mark}
 use Rattle.exchange.proofs.Invariant.{run-good, invariant, taken}
@@ -77,6 +78,7 @@ promise = record {
   taken = λ {k} {at} {h} {st} d b s status e r st′ a. reply-ends st status r st′ a (taken k h st (invariant k d) b s status e);
   tables-good = run-good;
   state-good = λ {k} d. invariant k d .state-good;
+  playable = playable;
   played = by-entries;
   frame-told = frame-tells;
   turn-told = turn-tells;

@@ -7,8 +7,8 @@
 --
 -- And so that the exchange does not stand still: with a good site file the master answers the frame it waits for (`answered`); the
 -- station takes every answer to it as a reply, and the wait is over (`taken`). The tables and its state are never refused with 11
--- (`tables-good`, `state-good`). The tables of a run are those that the master's entries leave, call by call (`played`),
--- and what they answer after it is `answerIn` and `turnIn` (`frame-told`, `turn-told`).
+-- (`tables-good`, `state-good`). Every run can be played, call by call, by the master's entries (`playable`); the tables
+-- of a run are those that they leave (`played`), and what they answer after it is `answerIn` and `turnIn` (`frame-told`, `turn-told`).
 --
 -- What it does not say. A station that breaks the rules may list what it likes, and so may one whose number somebody else uses. A
 -- station that the master has logged out for its silence still has its list and may not know it; its next frame is refused with 2,
@@ -54,6 +54,7 @@ pub record Promise : Type 0 where
       → (r : ℕ) (st′ : List ℕ) → Replies st status r st′ → (r ≡ 0) × (waits st′ ≡ false)
   pub tables-good : (h : Run) → goodTables (tables h .locks) (tables h .records) ≡ true
   pub state-good : {k at : ℕ} {h : Run} {st : List ℕ} → Follows k h at st → goodState st ≡ true
+  pub playable : (h : Run) → Played h (tables h .locks) (tables h .records)
   pub played : {h : Run} {t w : List ℕ} → Played h t w → (t ≡ tables h .locks) × (w ≡ tables h .records)
   pub frame-told : {h : Run} {t w : List ℕ} → Played h t w → (n : ℕ) (f s t′ w′ : List ℕ) (r : Answer) → Serves n f s t w r t′ w′ → told r ≡ answerIn h n f s
   pub turn-told : {h : Run} {t w : List ℕ} → Played h t w → (n : ℕ) (heard : Bool) (t′ w′ : List ℕ) (r : Turned) → Polls n heard t w r t′ w′ → turnTold r ≡ turnIn h n heard
