@@ -8,21 +8,23 @@ use lib.ListN.{getD}
 use Rattle.who.specs.Good.{goodCounts}
 use Rattle.who.specs.Logins.{loggedIn}
 use Rattle.who.proofs.TurnLaws.{turnsLeft}
-use Rattle.master.specs.Answers.{Told, refuses}
+use Rattle.master.specs.Answers.{Told, refuses, answers}
 use Rattle.master.specs.Refusals.{ANYBODY}
-use Rattle.station.specs.Asks.{askRefusal, afterLock, afterUnlock, Asks, freshState}
+use Rattle.station.specs.Asks.{askRefusal, afterLock, afterUnlock, afterClear, Asks, freshState}
 use Rattle.station.specs.Replies.{replyRefusal, Replies}
-use Rattle.exchange.specs.Runs.{frame, start, _then_, size, tables}
-use Rattle.exchange.specs.Following.{Follows, logs-in, others, asks-lock, asks-unlock, sends, hears}
+use Rattle.exchange.specs.Runs.{frame, start, _then_, size, after, tables, answerIn}
+use Rattle.exchange.specs.Following.{Follows, logs-in, others, asks-lock, asks-unlock, asks-clear, sends, hears}
 use Rattle.exchange.specs.Promise.{holds, lists}
-use Rattle.exchange.specs.Story.{A, site, login, buffer, asked, replied, locksA, unlocksA, one-locks, one-holds, one-unlocks, one-free, two-locks, two-denied, two-again, two-holds, from, logins, one-has-it, two-has-it, answersIn, said, silent, Happens}
+use Rattle.exchange.specs.Story.{A, B, site, login, logout, buffer, asked, replied, locksA, locksB, unlocksA, one-locks, one-holds, one-unlocks, one-free, one-locks-B, one-holds-B, one-clears, one-empty, two-locks, two-denied, two-again, two-holds, from, unlock, logins, one-has-it, two-has-it, one-has-none, one-leaves, answersIn, said, silent, Happens}
+use Rattle.master.proofs.Keeps.{logout-out}
+use Rattle.exchange.proofs.OwnFrames.{no-answer, Leaving, stayed, left, own-logout}
 use Rattle.exchange.proofs.OneNumber.{out-holds}
 use Rattle.exchange.proofs.Invariant.{run-good, invariant}
 use Rattle.exchange.proofs.Silences.{Stands, silent-follows, silent-out}
 use Rattle.exchange.proofs.Told.{story-told, story-lists, two-counts}
 
 -- the answer to event i
-told : (i : ℕ) → getD (answersIn two-has-it) i (refuses 0) ≡ getD said i (refuses 0)
+told : (i : ℕ) → getD (answersIn one-leaves) i (refuses 0) ≡ getD said i (refuses 0)
 told i = ap (λ (l : List Told). getD l i (refuses 0)) story-told
 
 -- an ask and a reply leave what the story says
@@ -36,50 +38,79 @@ takes st b = record { answer = refl; left = refl }
 
 -- station 1
 one-in : Follows 1 logins 0 freshState
-unfolding logins one-has-it two-has-it from answersIn said size
-one-in = others ANYBODY login site (λ e. omega arith) (logs-in start login site 0 0 (λ e. omega arith) (told 0))
+unfolding logins one-has-it two-has-it one-has-none one-leaves from answersIn said size
+one-in = others ANYBODY login site (λ e. omega arith) (
+    others ANYBODY login site (λ e. omega arith) (logs-in start login site 0 0 (λ e. omega arith) (told 0)))
 
 one-waits : Follows 1 logins 0 one-locks
 unfolding one-locks locksA A
 one-waits = asks-lock A refl _ _ (asks freshState (afterLock freshState A)) one-in
 
 one-locked : Follows 1 one-has-it 0 one-holds
-unfolding logins one-has-it two-has-it from answersIn said one-holds
-one-locked = hears buffer site 0x81 _ _ (told 4) (takes one-locks 0x81) (others 2 _ site (λ e. omega arith) (sends buffer site one-waits))
+unfolding logins one-has-it two-has-it one-has-none one-leaves from answersIn said one-holds
+one-locked = hears buffer site 0x81 _ _ (told 6) (takes one-locks 0x81) (
+    others 3 unlock site (λ e. omega arith) (others 2 _ site (λ e. omega arith) (sends buffer site one-waits)))
 
 one-unlocked : Follows 1 two-has-it 0 one-free
-unfolding logins one-has-it two-has-it from answersIn said one-free one-unlocks unlocksA A
+unfolding logins one-has-it two-has-it one-has-none one-leaves from answersIn said one-free one-unlocks unlocksA A
 one-unlocked = others 2 _ site (λ e. omega arith) (
-    hears buffer site 0x02 _ _ (told 6) (takes one-unlocks 0x02) (
+    hears buffer site 0x02 _ _ (told 8) (takes one-unlocks 0x02) (
     sends buffer site (asks-unlock A refl _ _ (asks one-holds (afterUnlock one-holds A)) one-locked)))
+
+one-cleared : Follows 1 one-has-none 0 one-empty
+unfolding logins one-has-it two-has-it one-has-none one-leaves from answersIn said one-locks-B locksB B one-holds-B one-clears one-empty
+one-cleared = hears buffer site 0x00 _ _ (told 11) (takes one-clears 0x00) (
+    asks-clear _ _ (asks one-holds-B afterClear) (
+    hears buffer site 0x00 _ _ (told 10) (takes one-locks-B 0x00) (
+    asks-lock B refl _ _ (asks one-free (afterLock one-free B)) one-unlocked)))
+
+logout-told : answerIn one-has-none 1 logout site ≡ answers []
+unfolding logins one-has-it two-has-it one-has-none one-leaves from answersIn said
+logout-told = told 12
+
+one-out : loggedIn (tables one-leaves .records) 1 ≡ false
+unfolding tables after one-leaves answerIn logout
+one-out = go (own-logout 1 logout site _ _ refl) logout-told
+  where
+    in-then : loggedIn (tables one-has-none .records) 1 ≡ true
+    in-then = invariant 1 one-cleared .inside
+
+    go : {a : Told} {t w : List ℕ} → Leaving 1 logout site (tables one-has-none .locks) (tables one-has-none .records) a t w → a ≡ answers [] → loggedIn w 1 ≡ false
+    go (stayed k) e = absurd (no-answer e)
+    go left e = logout-out _ _ (run-good one-has-none) 1 in-then 1
 
 -- station 2
 two-in : Follows 2 logins 1 freshState
-unfolding logins one-has-it two-has-it from answersIn said size
-two-in = logs-in (start then frame ANYBODY login site) login site 0 0 (λ e. omega arith) (told 1)
+unfolding logins one-has-it two-has-it one-has-none one-leaves from answersIn said size
+two-in = others ANYBODY login site (λ e. omega arith) (logs-in (start then frame ANYBODY login site) login site 0 0 (λ e. omega arith) (told 1))
 
 two-asked : Follows 2 one-has-it 1 two-denied
-unfolding logins one-has-it two-has-it from answersIn said two-denied two-locks locksA A
+unfolding logins one-has-it two-has-it one-has-none one-leaves from answersIn said two-denied two-locks locksA A
 two-asked = others 1 _ site (λ e. omega arith) (
-    hears buffer site 0x01 _ _ (told 3) (takes two-locks 0x01) (
-    others 1 _ site (λ e. omega arith) (asks-lock A refl _ _ (asks freshState (afterLock freshState A)) two-in)))
+    others 3 unlock site (λ e. omega arith) (
+    hears buffer site 0x01 _ _ (told 4) (takes two-locks 0x01) (
+    others 1 _ site (λ e. omega arith) (asks-lock A refl _ _ (asks freshState (afterLock freshState A)) two-in))))
 
 two-locked : Follows 2 two-has-it 1 two-holds
-unfolding logins one-has-it two-has-it from answersIn said two-holds two-again locksA A
-two-locked = hears buffer site 0x00 _ _ (told 7) (takes two-again 0x00) (
+unfolding logins one-has-it two-has-it one-has-none one-leaves from answersIn said two-holds two-again locksA A
+two-locked = hears buffer site 0x00 _ _ (told 9) (takes two-again 0x00) (
     asks-lock A refl _ _ (asks two-denied (afterLock two-denied A)) (
     others 1 _ site (λ e. omega arith) (others 1 _ site (λ e. omega arith) two-asked)))
 
-two-stands : Stands 2 0 0 two-has-it
-unfolding goodCounts
-two-stands = record { inside = invariant 2 two-locked .inside; counts = refl; misses = two-counts .0; slow = two-counts .1 }
+two-stays : Follows 2 one-leaves 1 two-holds
+unfolding one-has-none one-leaves from
+two-stays = others 1 logout site (λ e. omega arith) (others 1 _ site (λ e. omega arith) (others 1 _ site (λ e. omega arith) two-locked))
 
-two-out : loggedIn (tables (silent 2 1312 two-has-it) .records) 2 ≡ false
+two-stands : Stands 2 0 0 one-leaves
+unfolding goodCounts
+two-stands = record { inside = invariant 2 two-stays .inside; counts = refl; misses = two-counts .0; slow = two-counts .1 }
+
+two-out : loggedIn (tables (silent 2 1312 one-leaves) .records) 2 ≡ false
 unfolding turnsLeft
 two-out = silent-out 2 (λ e. omega arith) 1311 two-stands refl
 
--- who lists "A"
-listing : (i : ℕ) → getD (lists one-holds A ∷ lists two-denied A ∷ lists one-free A ∷ lists two-holds A ∷ []) i false ≡ getD (true ∷ false ∷ false ∷ true ∷ []) i false
+-- who lists "A", and who "B"
+listing : (i : ℕ) → getD (lists one-holds A ∷ lists two-denied A ∷ lists one-free A ∷ lists two-holds A ∷ lists one-holds-B B ∷ lists one-empty B ∷ []) i false ≡ getD (true ∷ false ∷ false ∷ true ∷ true ∷ false ∷ []) i false
 listing i = ap (λ (l : List Bool). getD l i false) story-lists
 
 pub happens : Happens
@@ -94,7 +125,11 @@ happens = record {
   one-lists-not = listing 2;
   two-locked = two-locked;
   two-lists = listing 3;
-  two-silent = silent-follows 2 (λ e. omega arith) 1311 two-stands (omega arith) two-locked;
+  one-locked-B = listing 4;
+  one-cleared = one-cleared;
+  one-lists-none = listing 5;
+  one-out = one-out;
+  two-silent = silent-follows 2 (λ e. omega arith) 1311 two-stands (omega arith) two-stays;
   two-out = two-out;
-  two-holds-not = out-holds _ _ (run-good (silent 2 1312 two-has-it)) 2 two-out A;
+  two-holds-not = out-holds _ _ (run-good (silent 2 1312 one-leaves)) 2 two-out A;
 }

@@ -2,7 +2,7 @@
 use Prim.Native.Nat.{ℕ, _≤_}
 use native.Mathlib.Omega.{arith}
 use mathlib.Core.Path.{_≡_, refl, sym, ap, subst, _∙_}
-use mathlib.Core.Bool.{Bool, true, false, true≢false}
+use mathlib.Core.Bool.{Bool, true}
 use mathlib.Core.List.{List, [], _∷_}
 use borrow.Author.Tests.{eq-eqb}
 use Rattle.rows.proofs.BoolLaws.{by-eq, both}
@@ -25,7 +25,7 @@ use Rattle.station.proofs.ListedLaws.{listed-none}
 use Rattle.station.proofs.Keeps as keeps
 use Rattle.exchange.specs.Runs.{Event, frame, turn, Run, start, _then_, after, tables, answerIn}
 use Rattle.exchange.specs.Following.{sideFrame, sent, Follows, logs-in, others, polled, asks-lock, asks-unlock, asks-clear, sends, hears, sides, logout-refused}
-use Rattle.exchange.proofs.OwnFrames.{Leaving, stayed, left, own-logout, side-stays}
+use Rattle.exchange.proofs.OwnFrames.{no-answer, Leaving, stayed, left, own-logout, side-stays}
 use Rattle.exchange.proofs.Settling.{Settles, Exchange, unserved, settles, own-exchange}
 use Rattle.exchange.proofs.Agreement.{agrees-still, same-agrees, lost-agrees}
 use Rattle.exchange.proofs.OneNumber.{table, out-holds, no-mark, Enters, enters, turn-holds}
@@ -83,8 +83,8 @@ module _ (k : ℕ) where
   unfolding tables after
   logout-on h st f s e in-now i = goes-on h (frame k f s) st i in-now (go (own-logout k f s _ _ e) in-now)
     where
-      go : {t′ w′ : List ℕ} → Leaving k f s (tables h .locks) (tables h .records) t′ w′ → loggedIn w′ k ≡ true → (y : LockString) → has t′ k y ≡ has (tables h .locks) k y
-      go stayed _ y = refl
+      go : {a : Told} {t′ w′ : List ℕ} → Leaving k f s (tables h .locks) (tables h .records) a t′ w′ → loggedIn w′ k ≡ true → (y : LockString) → has t′ k y ≡ has (tables h .locks) k y
+      go (stayed _) _ y = refl
       go left in-then y = both in-then (logout-out _ _ (run-good h) k (i .inside) k ∙ rw (eq-eqb k k refl))
 
   own-table : (h : Run) (st : List ℕ) → At h st → (b s : List ℕ) → Exchange k (tables h .locks) (tables h .records) (waitOf st) (answerIn h k (sent st b) s) (tables (h then frame k (sent st b) s) .locks) (tables (h then frame k (sent st b) s) .records)
@@ -103,13 +103,6 @@ module _ (k : ℕ) where
 
   answered : {t w v t′ w′ : List ℕ} {a : Told} (b : ℕ) → Exchange k t w v a t′ w′ → a ≡ answers (b ∷ []) → Answered t w v b t′ w′
   answered b (unserved j) e = absurd (no-answer e)
-    where
-      told-answers : Told → Bool
-      told-answers (refuses _) = false
-      told-answers (answers _) = true
-
-      no-answer : {j : ℕ} {vs : List ℕ} → refuses j ≡ answers vs → ⊥
-      no-answer e = true≢false (sym (ap told-answers e))
   answered b (settles c t′ s) e = record { settling = subst (Settles k _ t′ _) (ap status e) s; same-records = refl }
     where
       status : Told → ℕ

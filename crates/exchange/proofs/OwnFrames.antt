@@ -1,8 +1,8 @@
 -- What a station's own frames do at the master: refused and nothing changes, or exactly what the command says.
 use Prim.Native.Nat.{ℕ, _≤_}
 use native.Mathlib.Omega.{arith}
-use mathlib.Core.Path.{_≡_, refl, _∙_}
-use mathlib.Core.Bool.{true, false, _||_}
+use mathlib.Core.Path.{_≡_, refl, sym, ap, _∙_}
+use mathlib.Core.Bool.{Bool, true, false, true≢false, _||_}
 use mathlib.Core.List.{List, [], _∷_}
 use lib.Dec.{eqb}
 use lib.ListN.{length}
@@ -72,6 +72,15 @@ pub data Serving (t w : List ℕ) (status : ℕ) (t₁ : List ℕ) : Told → Li
   refused : (k : ℕ) → Serving t w status t₁ (refuses k) t w
   served : Serving t w status t₁ (answers (status ∷ [])) t₁ w
 
+-- a refusal is no answer
+told-answers : Told → Bool
+told-answers (refuses _) = false
+told-answers (answers _) = true
+
+pub no-answer : {j : ℕ} {vs : List ℕ} → refuses j ≡ answers vs → ⊥
+unfolding told-answers
+no-answer e = true≢false (sym (ap told-answers e))
+
 module _ (n : ℕ) (f s t w : List ℕ) where
   -- a command that is answered with a status and changes no record
   pub record Commands (status : ℕ) (t₁ : List ℕ) : Type 0 where
@@ -102,15 +111,15 @@ module _ (n : ℕ) (f s t w : List ℕ) where
   own-clear e = record { answer = rw e; locks = rw e; records = rw e }
 
   -- a logout is refused, or frees the rows and clears the record
-  pub data Leaving : List ℕ → List ℕ → Type 0 where
-    stayed : Leaving t w
-    left : Leaving (clearedTable t n) (afterLogout w n)
+  pub data Leaving : Told → List ℕ → List ℕ → Type 0 where
+    stayed : (k : ℕ) → Leaving (refuses k) t w
+    left : Leaving (answers []) (clearedTable t n) (afterLogout w n)
 
-  pub own-logout : code f ≡ LOGOUT → Leaving (frameLocks n f s t w) (frameRecords n f s t w)
-  unfolding frameLocks frameRecords requestIn plain locksBy recordsBy
+  pub own-logout : code f ≡ LOGOUT → Leaving (frameTold n f s t w) (frameLocks n f s t w) (frameRecords n f s t w)
+  unfolding frameTold frameLocks frameRecords requestIn plain answerTo locksBy recordsBy
   own-logout e = by-eq (refusal n f s t w) 0
       (λ z. rw (z, e) left)
-      (λ ne. rw (ne-eqb (refusal n f s t w) 0 ne) stayed)
+      (λ ne. rw (ne-eqb (refusal n f s t w) 0 ne) (stayed _))
 
   -- of a station that is logged in, a whole frame that holds no address, no login and no logout is not refused in good tables with a good site file
   pub not-refused : goodTables t w ≡ true → goodSite s ≡ true → loggedIn w n ≡ true → (c : ℕ) → code f ≡ c → length f ≡ frameLength c → eqb (frameLength c) 0 ≡ false

@@ -1,4 +1,5 @@
--- A run to show that the promise is about something: two stations, one lock, two lost replies, and a silence.
+-- A run to show that the promise is about something: two stations and one that breaks the rules, a contested lock, two lost replies, a
+-- clear, a logout, and a silence.
 use Prim.Native.Nat.{ℕ, zero, suc}
 use mathlib.Core.Path.{_≡_}
 use mathlib.Core.Bool.{true, false, cond}
@@ -9,21 +10,28 @@ use Rattle.terms.specs.declared.LockString.{LockString}
 use Rattle.who.specs.Logins.{loggedIn}
 use Rattle.master.specs.Answers.{Told, answers}
 use Rattle.master.specs.Refusals.{ANYBODY}
-use Rattle.station.specs.Asks.{askRefusal, afterLock, afterUnlock, freshState}
+use Rattle.frames.specs.Table.{UNLOCK}
+use Rattle.station.specs.Asks.{askRefusal, awaited, afterLock, afterUnlock, afterClear, freshState}
 use Rattle.station.specs.Replies.{replyRefusal, afterReply}
 use Rattle.exchange.specs.Runs.{Event, frame, turn, Run, start, _then_, tables, answerIn, turnIn}
 use Rattle.exchange.specs.Following.{sent, Follows}
 use Rattle.exchange.specs.Promise.{holds, lists}
 
--- the string "A", the empty site file, a login by nobody in particular, a buffer for a frame
+-- the strings "A" and "B", the empty site file, a login by nobody in particular, the logout of 1, a buffer for a frame
 unfoldable pub A : LockString
 A = record { len = 1; bytes = 65 ∷ replicate 12 0 }
+
+unfoldable pub B : LockString
+B = record { len = 1; bytes = 66 ∷ replicate 12 0 }
 
 unfoldable pub site : List ℕ
 site = 0 ∷ 0 ∷ 8 ∷ 0 ∷ 0 ∷ 0 ∷ 8 ∷ 0 ∷ []
 
 unfoldable pub login : List ℕ
 login = 0x13 ∷ replicate 19 0
+
+unfoldable pub logout : List ℕ
+logout = 0x1F ∷ 1 ∷ []
 
 unfoldable pub buffer : List ℕ
 buffer = replicate 15 0
@@ -38,10 +46,14 @@ replied st b = cond (eqb (replyRefusal st b) 0) (afterReply st b) st
 unfoldable pub locksA : List ℕ → List ℕ
 locksA st = asked st (afterLock st A)
 
+unfoldable pub locksB : List ℕ → List ℕ
+locksB st = asked st (afterLock st B)
+
 unfoldable pub unlocksA : List ℕ → List ℕ
 unlocksA st = asked st (afterUnlock st A)
 
--- station 1: asks for A, and after the second frame hears 81; asks to unlock A, and after the second frame hears 02
+-- station 1: asks for A, and after the second frame hears 81; asks to unlock A, and after the second frame hears 02; asks for B, hears
+-- 00; asks for a clear, hears 00
 unfoldable pub one-locks : List ℕ
 one-locks = locksA freshState
 
@@ -53,6 +65,18 @@ one-unlocks = unlocksA one-holds
 
 unfoldable pub one-free : List ℕ
 one-free = replied one-unlocks 0x02
+
+unfoldable pub one-locks-B : List ℕ
+one-locks-B = locksB one-free
+
+unfoldable pub one-holds-B : List ℕ
+one-holds-B = replied one-locks-B 0x00
+
+unfoldable pub one-clears : List ℕ
+one-clears = asked one-holds-B afterClear
+
+unfoldable pub one-empty : List ℕ
+one-empty = replied one-clears 0x00
 
 -- station 2: asks for A, hears 01; asks again later, hears 00
 unfoldable pub two-locks : List ℕ
@@ -71,15 +95,25 @@ two-holds = replied two-again 0x00
 unfoldable pub from : ℕ → List ℕ → Event
 from k st = frame k (sent st buffer) site
 
--- the run, up to where each station holds A
+-- station 3 breaks the rules: it has asked for nothing, and sends an unlock of A
+unfoldable pub unlock : List ℕ
+unlock = awaited UNLOCK A
+
+-- the run: up to where 1 holds A, up to where 2 holds it, and up to where 1 holds nothing and logs out
 unfoldable pub logins : Run
-logins = start then frame ANYBODY login site then frame ANYBODY login site
+logins = start then frame ANYBODY login site then frame ANYBODY login site then frame ANYBODY login site
 
 unfoldable pub one-has-it : Run
-one-has-it = logins then from 1 one-locks then from 2 two-locks then from 1 one-locks
+one-has-it = logins then from 1 one-locks then from 2 two-locks then frame 3 unlock site then from 1 one-locks
 
 unfoldable pub two-has-it : Run
 two-has-it = one-has-it then from 1 one-unlocks then from 1 one-unlocks then from 2 two-again
+
+unfoldable pub one-has-none : Run
+one-has-none = two-has-it then from 1 one-locks-B then from 1 one-clears
+
+unfoldable pub one-leaves : Run
+one-leaves = one-has-none then frame 1 logout site
 
 -- what each event was answered, the lost replies too
 unfoldable pub answersIn : Run → List Told
@@ -91,12 +125,17 @@ unfoldable pub said : List Told
 said =
     answers (1 ∷ 0 ∷ 0 ∷ [])
     ∷ answers (2 ∷ 0 ∷ 0 ∷ [])
+    ∷ answers (3 ∷ 0 ∷ 0 ∷ [])
     ∷ answers (0x00 ∷ [])  -- lost
     ∷ answers (0x01 ∷ [])
+    ∷ answers (0x02 ∷ [])  -- to 3
     ∷ answers (0x81 ∷ [])
     ∷ answers (0x00 ∷ [])  -- lost
     ∷ answers (0x02 ∷ [])
     ∷ answers (0x00 ∷ [])
+    ∷ answers (0x00 ∷ [])
+    ∷ answers (0x00 ∷ [])
+    ∷ answers []
     ∷ []
 
 -- and then k is polled j times and never heard
@@ -104,10 +143,10 @@ unfoldable pub silent : ℕ → ℕ → Run → Run
 silent k zero h = h
 silent k (suc j) h = silent k j (h then turn k false)
 
--- it happens: both follow the rules all the while
+-- it happens: 1 and 2 follow the rules all the while
 pub record Happens : Type 0 where
-  pub told : answersIn two-has-it ≡ said
-  -- the reply to the lock of 1 was lost; 2 asked for the same string and heard 01; 1 sent again and heard 81
+  pub told : answersIn one-leaves ≡ said
+  -- the reply to the lock of 1 was lost; 2 asked for the same string and heard 01; 3 tried to unlock it; 1 sent again and heard 81
   pub one-locked : Follows 1 one-has-it 0 one-holds
   pub one-lists : lists one-holds A ≡ true
   pub two-asked : Follows 2 one-has-it 1 two-denied
@@ -117,7 +156,12 @@ pub record Happens : Type 0 where
   pub one-lists-not : lists one-free A ≡ false
   pub two-locked : Follows 2 two-has-it 1 two-holds
   pub two-lists : lists two-holds A ≡ true
+  -- 1 locked B, asked for a clear and heard 00; then it logged out
+  pub one-locked-B : lists one-holds-B B ≡ true
+  pub one-cleared : Follows 1 one-has-none 0 one-empty
+  pub one-lists-none : lists one-empty B ≡ false
+  pub one-out : loggedIn (tables one-leaves .records) 1 ≡ false
   -- 2 falls silent: it is in for 1,311 turns, and out after the next; its lock is gone with it
-  pub two-silent : Follows 2 (silent 2 1311 two-has-it) 1 two-holds
-  pub two-out : loggedIn (tables (silent 2 1312 two-has-it) .records) 2 ≡ false
-  pub two-holds-not : holds (silent 2 1312 two-has-it) 2 A ≡ false
+  pub two-silent : Follows 2 (silent 2 1311 one-leaves) 1 two-holds
+  pub two-out : loggedIn (tables (silent 2 1312 one-leaves) .records) 2 ≡ false
+  pub two-holds-not : holds (silent 2 1312 one-leaves) 2 A ≡ false
