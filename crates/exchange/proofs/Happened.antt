@@ -5,7 +5,6 @@ use mathlib.Core.Path.{_≡_, refl, ap}
 use mathlib.Core.Bool.{Bool, true, false}
 use mathlib.Core.List.{List, [], _∷_}
 use lib.ListN.{getD}
-use Rattle.who.specs.Good.{goodCounts}
 use Rattle.who.specs.Logins.{loggedIn}
 use Rattle.who.proofs.TurnLaws.{turnsLeft}
 use Rattle.master.specs.Answers.{Told, refuses, answers}
@@ -20,8 +19,8 @@ use Rattle.master.proofs.Keeps.{logout-out}
 use Rattle.exchange.proofs.OwnFrames.{no-answer, Leaving, stayed, left, own-logout}
 use Rattle.exchange.proofs.OneNumber.{out-holds}
 use Rattle.exchange.proofs.Invariant.{run-good, invariant}
-use Rattle.exchange.proofs.Silences.{Stands, silent-follows, silent-out}
-use Rattle.exchange.proofs.Told.{story-told, story-lists, two-counts}
+use Rattle.exchange.proofs.Silences.{Stands, turnless, no-miss, silent-follows, silent-out}
+use Rattle.exchange.proofs.Told.{story-told, story-lists}
 
 -- the answer to event i
 told : (i : ℕ) → getD (answersIn one-leaves) i (refuses 0) ≡ getD said i (refuses 0)
@@ -102,8 +101,8 @@ unfolding one-has-none one-leaves from
 two-stays = others 1 logout site (λ e. omega arith) (others 1 _ site (λ e. omega arith) (others 1 _ site (λ e. omega arith) two-locked))
 
 two-stands : Stands 2 0 0 one-leaves
-unfolding goodCounts
-two-stands = record { inside = invariant 2 two-stays .inside; counts = refl; misses = two-counts .0; slow = two-counts .1 }
+unfolding turnless logins one-has-it two-has-it one-has-none one-leaves from
+two-stands = no-miss two-stays refl
 
 two-out : loggedIn (tables (silent 2 1312 one-leaves) .records) 2 ≡ false
 unfolding turnsLeft

@@ -2,30 +2,22 @@
 use Prim.Native.Nat.{ℕ, suc, _+_, _-_, _%_, _≤_, _<_}
 use native.Mathlib.Omega.{arith}
 use mathlib.Core.Path.{_≡_, refl, sym, _∙_}
-use mathlib.Core.Bool.{true, false}
+use mathlib.Core.Bool.{false}
 use lib.Dec.{eqb, leb}
 use borrow.Author.Tests.{eqb-true, eq-eqb, leb-true, leb-false, le-leb}
-use Rattle.rows.specs.Rows.{row}
 use Rattle.rows.proofs.BoolLaws.{by-test, iff}
 use Rattle.who.specs.Good.{goodCounts}
 use Rattle.who.specs.Logins.{loggedIn}
 use Rattle.who.specs.Turns.{isDue, missesAfter, slowAfter, isOut}
 use Rattle.who.proofs.TurnLaws.{turnsLeft, out-last, silent-left, due-when}
-use Rattle.master.specs.Polls.{stationAt}
 use Rattle.master.proofs.Keeps.{frame-others-in}
 use Rattle.master.proofs.PollKeeps.{poll-others-in}
-use Rattle.exchange.specs.Runs.{Event, frame, turn, Run, _then_, after, tables}
+use Rattle.exchange.specs.Runs.{frame, turn, Run, _then_, after, tables}
 use Rattle.exchange.specs.Promise.{holds}
 use Rattle.exchange.specs.Silence.{Silent, logs-in, polled, others, others-polled, lastTurn, dueInTurn, Silence}
 use Rattle.exchange.proofs.OneNumber.{out-holds}
-use Rattle.exchange.proofs.Invariant.{run-good, begins}
-use Rattle.exchange.proofs.Silences.{Stands, next, last, on-yet, turn-tells}
-
--- what happens to others leaves its record
-beside : {k m s : ℕ} (h : Run) (e : Event) → Stands k m s h → loggedIn (tables (h then e) .records) k ≡ true → row 18 (tables (h then e) .records) k ≡ row 18 (tables h .records) k
-    → Stands k m s (h then e)
-unfolding stationAt
-beside h e st in-now same = record { inside = in-now; counts = st .counts; misses = rw same (st .misses); slow = rw same (st .slow) }
+use Rattle.exchange.proofs.Invariant.{run-good}
+use Rattle.exchange.proofs.Silences.{Stands, begun, beside, next, last, on-yet, turn-tells}
 
 -- it stands somewhere, with all but t of its turns left
 record Left (k t : ℕ) (h : Run) : Type 0 where
@@ -38,8 +30,7 @@ record Left (k t : ℕ) (h : Run) : Type 0 where
 left-of : {k t : ℕ} {h : Run} → Silent k h t → t < lastTurn → Left k t h
 unfolding tables after turnsLeft goodCounts
 left-of {k} (logs-in h f s found serial nz e) l =
-    let n = begins k h f s found serial nz e in
-    record { alive = nz; misses = 0; slow = 0; stands = record { inside = n .is-in; counts = refl; misses = n .no-misses; slow = n .no-slow }; left = refl }
+    record { alive = nz; misses = 0; slow = 0; stands = begun k h f s found serial nz e; left = refl }
 left-of {k} (polled {h} {t} d) l =
     let p = left-of d (omega arith) in
     let on = on-yet k (p .alive) (p .stands) 0 (omega (arith, p .left)) in record {

@@ -21,7 +21,6 @@ use Rattle.locks.specs.Good.{soundRow, soundAt, aloneAt, soundRows, goodLocks, 
 use Rattle.master.specs.Tables.{goodTables}
 use Rattle.master.specs.Refusals.{unknown, misplaced, dtnSet, srcDiffers, placeRefusal, frameTests, frameRefusal, refusal}
 use Rattle.master.specs.Frames.{placeTold, hasFree, nameFound, loginAnswer, loginRecords, answerTo, locksBy, recordsBy, frameTold, frameLocks, frameRecords}
-use Rattle.master.specs.Polls.{stationAt}
 use Rattle.station.specs.State.{listOf, waitOf, placeString, unused, listedAt, isListed, placeOf, listed, added, struckAt, codeIn, askedIn}
 use Rattle.station.specs.Good.{goodPlace, goodAt as goodPlaceAt, inFront, aloneAt as alonePlace, goodList, goodWait, goodState}
 use Rattle.station.specs.Asks.{waits, askRefusal, struck, awaited, afterLock, afterUnlock, afterClear, freshState, frameAwaited, sendRefusal, sentOf, bufferAfter}
@@ -40,8 +39,3 @@ story-told = refl
 pub story-lists : (lists one-holds A ∷ lists two-denied A ∷ lists one-free A ∷ lists two-holds A ∷ lists one-holds-B B ∷ lists one-empty B ∷ []) ≡ (true ∷ false ∷ false ∷ true ∷ true ∷ false ∷ [])
 unfolding all any first sameAt same zeroAt zeros part put stringAt legal key sameString normal listOf waitOf placeString unused listedAt isListed placeOf listed added struckAt codeIn askedIn goodPlace goodPlaceAt inFront alonePlace goodList goodWait goodState waits askRefusal struck awaited afterLock afterUnlock afterClear freshState fits grants carriesLength adds replyRefusal afterReply A B asked replied locksA locksB unlocksA one-locks one-holds one-unlocks one-free one-locks-B one-holds-B one-clears one-empty two-locks two-denied two-again two-holds lists
 story-lists = refl
-
--- at its end station 2 has missed no poll
-pub two-counts : (stationAt (tables one-leaves .records) 2 .misses ≡ 0) × (stationAt (tables one-leaves .records) 2 .slow ≡ 0)
-unfolding all any first sameAt same zeroAt zeros part put copies eachRow lowFirst lowBytes stringAt legal key sameString normal frameTable lengthIn frameLength carriesAddress plain addressIn namedIn loginIn stringRequest requestIn users userOffset partitions partitionOffset nameAt passwordAt rowAt spareAt goodHeader sameName namedAt nameAlone tracks sectors ranged numbered partitionNumbered numberAlone meet overlap partitionsOverlap sound apart goodPartition goodSite userIs hasUser indexOfNumber flag bytesOf stationOf goodCounts goodRecord goodNumber goodRecords loggedIn freeNumber lowestNumber loggedInAs afterLogin afterLogout freshRecords owner stringOf isFree rowOf holds freed holdsAt freeAt ownerAt heldAt lowestFree isHeld isOwn lockStatus lockTable unlocks unlockStatus unlockTable clearedTable soundRow soundAt aloneAt soundRows goodLocks freshLocks goodTables unknown misplaced dtnSet srcDiffers placeRefusal frameTests frameRefusal refusal placeTold hasFree nameFound loginAnswer loginRecords answerTo locksBy recordsBy frameTold frameLocks frameRecords listOf waitOf placeString unused listedAt isListed placeOf listed added struckAt codeIn askedIn goodPlace goodPlaceAt inFront alonePlace goodList goodWait goodState waits askRefusal struck awaited afterLock afterUnlock afterClear freshState frameAwaited sendRefusal sentOf bufferAfter fits grants carriesLength adds replyRefusal afterReply after tables sent A B site login logout buffer asked replied locksA locksB unlocksA one-locks one-holds one-unlocks one-free one-locks-B one-holds-B one-clears one-empty two-locks two-denied two-again two-holds from unlock logins one-has-it two-has-it one-has-none one-leaves stationAt
-two-counts = (refl, refl)
