@@ -1,13 +1,13 @@
 -- 01's marked examples as one table. Bytes are written as they stand in frames and files.
 use Prim.Native.Nat.{ℕ, zero, suc}
-use mathlib.Core.Bool.{false}
+use mathlib.Core.Bool.{true, false}
 use mathlib.Core.List.{List, [], _∷_, _++_}
 use lib.ListN.{replicate}
 use Rattle.rows.specs.Rows.{setRow}
 use Rattle.rows.specs.Numbers.{lowBytes}
 use Rattle.who.specs.Logins.{freshRecords}
 use Rattle.locks.specs.Good.{freshLocks}
-use Rattle.master.specs.Answers.{Told, refuses, answers}
+use Rattle.master.specs.Answers.{Told, refuses, answers, status-byte, place-at, login-as, turn-was}
 use Rattle.examples.specs.Play.{Line, frame, poll, Example}
 
 -- a partition row with a name of one letter and no password, of size 1: volume, partition number, first sector
@@ -33,14 +33,14 @@ reads v p track sector told = frame 0 (0x11 ∷ 0 ∷ 0 ∷ p ∷ track ∷ 0 �
 
 -- user n locks and unlocks
 unfoldable pub locks : ℕ → List ℕ → ℕ → Line
-locks n string status = frame n (0x19 ∷ string) (answers (status ∷ []))
+locks n string status = frame n (0x19 ∷ string) (answers (status-byte status))
 
 unfoldable pub unlocks : ℕ → List ℕ → ℕ → Line
-unlocks n string status = frame n (0x1A ∷ string) (answers (status ∷ []))
+unlocks n string status = frame n (0x1A ∷ string) (answers (status-byte status))
 
 -- somebody logs in, and is user 1
 unfoldable pub logsIn : Line
-logsIn = frame 253 (0x13 ∷ replicate 19 0) (answers (1 ∷ 0 ∷ 0 ∷ []))
+logsIn = frame 253 (0x13 ∷ replicate 19 0) (answers (login-as 1 false 0))
 
 -- a length, and thirteen bytes that begin with these two
 unfoldable pub string : ℕ → ℕ → ℕ → List ℕ
@@ -69,13 +69,13 @@ unfoldable pub marked : List Example
 marked =
     -- track 0 sector 1, track 15 sector 128; the same numbers with volume 0, partition 1 and no such row
     fresh one (
-    reads 1 0 0 1 (answers (1 ∷ 2048 ∷ []))
-    ∷ reads 1 0 15 128 (answers (1 ∷ 4095 ∷ []))
+    reads 1 0 0 1 (answers (place-at 1 2048))
+    ∷ reads 1 0 15 128 (answers (place-at 1 4095))
     ∷ reads 0 1 0 1 (refuses 8)
     ∷ reads 0 1 15 128 (refuses 8)
     ∷ [])
     -- a second row at 4096 is good, at 4095 the file is refused
-    ∷ fresh (two 4096) (reads 1 1 0 1 (answers (1 ∷ 4096 ∷ [])) ∷ [])
+    ∷ fresh (two 4096) (reads 1 1 0 1 (answers (place-at 1 4096)) ∷ [])
     ∷ fresh (two 4095) (reads 1 1 0 1 (refuses 10) ∷ [])
     -- lengths 0, 14 and 13
     ∷ fresh empty (locks 0 (string 0 A B) 0x02 ∷ locks 0 (string 14 A B) 0x02 ∷ locks 0 (string 13 A B) 0x00 ∷ [])
@@ -109,7 +109,7 @@ marked =
       locks = setRow 16 freshLocks 0 (1 ∷ (string 1 A 0 ++ (0 ∷ [])));
       stations = silent;
       lines =
-          poll 1 false (answers (1 ∷ 1 ∷ []))
+          poll 1 false (answers (turn-was true true))
           ∷ frame 1 (0x19 ∷ string 1 A 0) (refuses 2)
           ∷ locks 0 (string 1 A 0) 0x00
           ∷ [];

@@ -7,7 +7,8 @@ use mathlib.Core.List.{List, [], _∷_}
 use lib.ListN.{getD}
 use Rattle.who.specs.Logins.{loggedIn}
 use Rattle.who.proofs.TurnLaws.{turnsLeft}
-use Rattle.master.specs.Answers.{Told, refuses, answers}
+use Rattle.master.proofs.Outcomes.{no-answer}
+use Rattle.master.specs.Answers.{Told, refuses, answers, no-bytes}
 use Rattle.master.specs.Refusals.{ANYBODY}
 use Rattle.station.specs.Asks.{askRefusal, afterLock, afterUnlock, afterClear, Asks, freshState}
 use Rattle.station.specs.Replies.{replyRefusal, Replies}
@@ -16,7 +17,7 @@ use Rattle.exchange.specs.Following.{Follows, logs-in, others, asks-lock
 use Rattle.exchange.specs.Promise.{holds, lists}
 use Rattle.exchange.specs.Story.{A, B, site, login, logout, buffer, asked, replied, locksA, locksB, unlocksA, one-locks, one-holds, one-unlocks, one-free, one-locks-B, one-holds-B, one-clears, one-empty, two-locks, two-denied, two-again, two-holds, from, unlock, logins, one-has-it, two-has-it, one-has-none, one-leaves, answersIn, said, silent, Happens}
 use Rattle.master.proofs.Keeps.{logout-out}
-use Rattle.exchange.proofs.OwnFrames.{no-answer, Leaving, stayed, left, own-logout}
+use Rattle.exchange.proofs.OwnFrames.{Leaving, stayed, left, own-logout}
 use Rattle.exchange.proofs.OneNumber.{out-holds}
 use Rattle.exchange.proofs.Invariant.{run-good, invariant}
 use Rattle.exchange.proofs.Silences.{Stands, turnless, no-miss, silent-follows, silent-out}
@@ -39,7 +40,7 @@ takes st b = record { answer = refl; left = refl }
 one-in : Follows 1 logins 0 freshState
 unfolding logins one-has-it two-has-it one-has-none one-leaves from answersIn said size
 one-in = others ANYBODY login site (λ e. omega arith) (
-    others ANYBODY login site (λ e. omega arith) (logs-in start login site 0 0 (λ e. omega arith) (told 0)))
+    others ANYBODY login site (λ e. omega arith) (logs-in start login site false 0 (λ e. omega arith) (told 0)))
 
 one-waits : Follows 1 logins 0 one-locks
 unfolding one-locks locksA A
@@ -63,7 +64,7 @@ one-cleared = hears buffer site 0x00 _ _ (told 11) (takes one-clears 0x00) (
     hears buffer site 0x00 _ _ (told 10) (takes one-locks-B 0x00) (
     asks-lock B refl _ _ (asks one-free (afterLock one-free B)) one-unlocked)))
 
-logout-told : answerIn one-has-none 1 logout site ≡ answers []
+logout-told : answerIn one-has-none 1 logout site ≡ answers no-bytes
 unfolding logins one-has-it two-has-it one-has-none one-leaves from answersIn said
 logout-told = told 12
 
@@ -74,14 +75,14 @@ one-out = go (own-logout 1 logout site _ _ refl) logout-told
     in-then : loggedIn (tables one-has-none .records) 1 ≡ true
     in-then = invariant 1 one-cleared .inside
 
-    go : {a : Told} {t w : List ℕ} → Leaving 1 logout site (tables one-has-none .locks) (tables one-has-none .records) a t w → a ≡ answers [] → loggedIn w 1 ≡ false
+    go : {a : Told} {t w : List ℕ} → Leaving 1 logout site (tables one-has-none .locks) (tables one-has-none .records) a t w → a ≡ answers no-bytes → loggedIn w 1 ≡ false
     go (stayed k) e = absurd (no-answer e)
     go left e = logout-out _ _ (run-good one-has-none) 1 in-then 1
 
 -- station 2
 two-in : Follows 2 logins 1 freshState
 unfolding logins one-has-it two-has-it one-has-none one-leaves from answersIn said size
-two-in = others ANYBODY login site (λ e. omega arith) (logs-in (start then frame ANYBODY login site) login site 0 0 (λ e. omega arith) (told 1))
+two-in = others ANYBODY login site (λ e. omega arith) (logs-in (start then frame ANYBODY login site) login site false 0 (λ e. omega arith) (told 1))
 
 two-asked : Follows 2 one-has-it 1 two-denied
 unfolding logins one-has-it two-has-it one-has-none one-leaves from answersIn said two-denied two-locks locksA A

@@ -3,7 +3,7 @@ use Prim.Native.Nat.{ℕ, _≤_}
 use native.Mathlib.Omega.{arith}
 use mathlib.Core.Path.{_≡_, refl, sym, ap, subst, _∙_}
 use mathlib.Core.Bool.{Bool, true}
-use mathlib.Core.List.{List, [], _∷_}
+use mathlib.Core.List.{List}
 use borrow.Author.Tests.{eq-eqb}
 use Rattle.rows.proofs.BoolLaws.{by-eq, both}
 use Rattle.terms.specs.declared.LockString.{LockString}
@@ -13,7 +13,8 @@ use Rattle.who.specs.Logins.{loggedIn}
 use Rattle.locks.specs.Table.{rowCount}
 use Rattle.locks.specs.Holding.{has}
 use Rattle.master.specs.Tables.{goodTables}
-use Rattle.master.specs.Answers.{Told, refuses, answers}
+use Rattle.master.proofs.Outcomes.{no-answer}
+use Rattle.master.specs.Answers.{Told, answers, status-byte, login-as}
 use Rattle.master.specs.Refusals.{ANYBODY}
 use Rattle.master.proofs.Deeds.{loginNumber, deed}
 use Rattle.master.proofs.Keeps.{fresh-tables, logout-out, frame-keeps, frame-others-in, frame-others-have}
@@ -25,7 +26,7 @@ use Rattle.station.proofs.ListedLaws.{listed-none}
 use Rattle.station.proofs.Keeps as keeps
 use Rattle.exchange.specs.Runs.{Event, frame, turn, Run, start, _then_, after, tables, answerIn}
 use Rattle.exchange.specs.Following.{sideFrame, sent, Follows, logs-in, others, polled, asks-lock, asks-unlock, asks-clear, sends, hears, sides, logout-refused}
-use Rattle.exchange.proofs.OwnFrames.{no-answer, Leaving, stayed, left, own-logout, side-stays}
+use Rattle.exchange.proofs.OwnFrames.{Leaving, stayed, left, own-logout, side-stays}
 use Rattle.exchange.proofs.Settling.{Settles, Exchange, unserved, settles, own-exchange}
 use Rattle.exchange.proofs.Agreement.{agrees-still, same-agrees, lost-agrees}
 use Rattle.exchange.proofs.OneNumber.{table, out-holds, no-mark, Enters, enters, turn-holds}
@@ -48,7 +49,7 @@ module _ (k : ℕ) where
   goes-on h e st i in-now same = record { inside = in-now; state-good = i .state-good; agrees = agrees-still (i .agrees) same }
 
   -- a login that is answered with k
-  pub begins : (h : Run) (f s : List ℕ) (found serial : ℕ) → (k ≡ 0 → ⊥) → answerIn h ANYBODY f s ≡ answers (k ∷ found ∷ serial ∷ []) → Enters (tables h .locks) (tables h .records) (run-good h) k (tables (h then frame ANYBODY f s) .locks) (tables (h then frame ANYBODY f s) .records)
+  pub begins : (h : Run) (f s : List ℕ) (found : Bool) (serial : ℕ) → (k ≡ 0 → ⊥) → answerIn h ANYBODY f s ≡ answers (login-as k found serial) → Enters (tables h .locks) (tables h .records) (run-good h) k (tables (h then frame ANYBODY f s) .locks) (tables (h then frame ANYBODY f s) .records)
   unfolding answerIn tables after loginNumber
   begins h f s found serial nz e = enters _ _ (run-good h) ANYBODY k f s _ _ _ (deed ANYBODY f s _ _) (ap loginNumber e) nz
 
@@ -97,29 +98,24 @@ module _ (k : ℕ) where
   lost i (settles b t′ s) = record { inside = i .inside; state-good = i .state-good; agrees = lost-agrees (i .agrees) s }
 
   -- the reply is taken
-  record Answered (t w v : List ℕ) (b : ℕ) (t′ w′ : List ℕ) : Type 0 where
+  record Served (t w v : List ℕ) (b : ℕ) (t′ w′ : List ℕ) : Type 0 where
     settling : Settles k t t′ v b
     same-records : w′ ≡ w
 
-  answered : {t w v t′ w′ : List ℕ} {a : Told} (b : ℕ) → Exchange k t w v a t′ w′ → a ≡ answers (b ∷ []) → Answered t w v b t′ w′
+  answered : {t w v t′ w′ : List ℕ} {a : Told} (b : ℕ) → Exchange k t w v a t′ w′ → a ≡ answers (status-byte b) → Served t w v b t′ w′
   answered b (unserved j) e = absurd (no-answer e)
-  answered b (settles c t′ s) e = record { settling = subst (Settles k _ t′ _) (ap status e) s; same-records = refl }
-    where
-      status : Told → ℕ
-      status (refuses _) = 0
-      status (answers []) = 0
-      status (answers (c ∷ _)) = c
+  answered b (settles c t′ s) e = let same : c ≡ b = cc in record { settling = subst (Settles k _ t′ _) same s; same-records = refl }
 
-  heard : (h : Run) (st : List ℕ) (i : At h st) (b s : List ℕ) (c : ℕ) → answerIn h k (sent st b) s ≡ answers (c ∷ []) → Answered (tables h .locks) (tables h .records) (waitOf st) c (tables (h then frame k (sent st b) s) .locks) (tables (h then frame k (sent st b) s) .records)
+  heard : (h : Run) (st : List ℕ) (i : At h st) (b s : List ℕ) (c : ℕ) → answerIn h k (sent st b) s ≡ answers (status-byte c) → Served (tables h .locks) (tables h .records) (waitOf st) c (tables (h then frame k (sent st b) s) .locks) (tables (h then frame k (sent st b) s) .records)
   heard h st i b s c e = answered c (own-table h st i b s) e
 
   rows-few : (h : Run) → rowCount (tables h .locks) ≤ limit
   rows-few h = let g = table _ _ (run-good h) in omega (arith, g .sized)
 
-  pub taken : (h : Run) (st : List ℕ) (i : At h st) (b s : List ℕ) (c : ℕ) → answerIn h k (sent st b) s ≡ answers (c ∷ []) → replyRefusal st c ≡ 0
+  pub taken : (h : Run) (st : List ℕ) (i : At h st) (b s : List ℕ) (c : ℕ) → answerIn h k (sent st b) s ≡ answers (status-byte c) → replyRefusal st c ≡ 0
   taken h st i b s c e = reply-taken k _ _ st i _ c (rows-few (h then frame k (sent st b) s)) (heard h st i b s c e .settling)
 
-  heard-on : (h : Run) (st : List ℕ) (i : At h st) (b s : List ℕ) (c r : ℕ) (st′ : List ℕ) → answerIn h k (sent st b) s ≡ answers (c ∷ []) → Replies st c r st′ → At (h then frame k (sent st b) s) st′
+  heard-on : (h : Run) (st : List ℕ) (i : At h st) (b s : List ℕ) (c r : ℕ) (st′ : List ℕ) → answerIn h k (sent st b) s ≡ answers (status-byte c) → Replies st c r st′ → At (h then frame k (sent st b) s) st′
   heard-on h st i b s c r st′ e a =
       let z = taken h st i b s c e in
       let n = heard h st i b s c e in

@@ -1,9 +1,9 @@
 -- What a station's own frames do at the master: refused and nothing changes, or exactly what the command says.
 use Prim.Native.Nat.{ℕ, _≤_}
 use native.Mathlib.Omega.{arith}
-use mathlib.Core.Path.{_≡_, refl, sym, ap, _∙_}
-use mathlib.Core.Bool.{Bool, true, false, true≢false, _||_}
-use mathlib.Core.List.{List, [], _∷_}
+use mathlib.Core.Path.{_≡_, refl, _∙_}
+use mathlib.Core.Bool.{true, false, _||_}
+use mathlib.Core.List.{List, []}
 use lib.Dec.{eqb}
 use lib.ListN.{length}
 use lib.Seq.{take-append-le, take-length}
@@ -18,7 +18,7 @@ use Rattle.who.specs.Logins.{loggedIn, afterLogout}
 use Rattle.who.proofs.WhoLaws.{good-is, logged-below}
 use Rattle.locks.specs.Table.{lockStatus, lockTable, unlockStatus, unlockTable, clearedTable}
 use Rattle.master.specs.Tables.{goodTables}
-use Rattle.master.specs.Answers.{Told, refuses, answers}
+use Rattle.master.specs.Answers.{Told, refuses, answers, no-bytes, status-byte}
 use Rattle.master.specs.Refusals.{ANYBODY, unknown, misplaced, dtnSet, srcDiffers, placeRefusal, frameTests, frameRefusal, refusal}
 use Rattle.master.specs.Frames.{answerTo, locksBy, recordsBy, frameTold, frameLocks, frameRecords}
 use Rattle.master.proofs.Deeds.{records-good}
@@ -70,21 +70,12 @@ side-code c y =
 -- at the master: refused, or answered with a status and the lock table t₁
 pub data Serving (t w : List ℕ) (status : ℕ) (t₁ : List ℕ) : Told → List ℕ → List ℕ → Type 0 where
   refused : (k : ℕ) → Serving t w status t₁ (refuses k) t w
-  served : Serving t w status t₁ (answers (status ∷ [])) t₁ w
-
--- a refusal is no answer
-told-answers : Told → Bool
-told-answers (refuses _) = false
-told-answers (answers _) = true
-
-pub no-answer : {j : ℕ} {vs : List ℕ} → refuses j ≡ answers vs → ⊥
-unfolding told-answers
-no-answer e = true≢false (sym (ap told-answers e))
+  served : Serving t w status t₁ (answers (status-byte status)) t₁ w
 
 module _ (n : ℕ) (f s t w : List ℕ) where
   -- a command that is answered with a status and changes no record
   pub record Commands (status : ℕ) (t₁ : List ℕ) : Type 0 where
-    pub answer : answerTo (requestIn f .command) (requestIn f) n s t w ≡ answers (status ∷ [])
+    pub answer : answerTo (requestIn f .command) (requestIn f) n s t w ≡ answers (status-byte status)
     pub locks : locksBy (requestIn f .command) (requestIn f) n t ≡ t₁
     pub records : recordsBy (requestIn f .command) (requestIn f) n s w ≡ w
 
@@ -94,7 +85,7 @@ module _ (n : ℕ) (f s t w : List ℕ) where
       (λ e. rw (e, c .answer, c .locks, c .records) served)
       (λ ne. rw (ne-eqb (refusal n f s t w) 0 ne) (refused (refusal n f s t w)))
 
-  pub told-status : {status : ℕ} {t₁ : List ℕ} → Commands status t₁ → refusal n f s t w ≡ 0 → frameTold n f s t w ≡ answers (status ∷ [])
+  pub told-status : {status : ℕ} {t₁ : List ℕ} → Commands status t₁ → refusal n f s t w ≡ 0 → frameTold n f s t w ≡ answers (status-byte status)
   unfolding frameTold
   told-status c z = rw z (c .answer)
 
@@ -113,7 +104,7 @@ module _ (n : ℕ) (f s t w : List ℕ) where
   -- a logout is refused, or frees the rows and clears the record
   pub data Leaving : Told → List ℕ → List ℕ → Type 0 where
     stayed : (k : ℕ) → Leaving (refuses k) t w
-    left : Leaving (answers []) (clearedTable t n) (afterLogout w n)
+    left : Leaving (answers no-bytes) (clearedTable t n) (afterLogout w n)
 
   pub own-logout : code f ≡ LOGOUT → Leaving (frameTold n f s t w) (frameLocks n f s t w) (frameRecords n f s t w)
   unfolding frameTold frameLocks frameRecords requestIn plain answerTo locksBy recordsBy

@@ -14,17 +14,16 @@ use Rattle.frames.specs.Reading.{requestIn}
 use Rattle.site.specs.declared.Placed.{Placed}
 use Rattle.site.specs.Layout.{partitionRow}
 use Rattle.site.specs.Found.{indexOfName}
-use Rattle.who.specs.Records.{flag}
 use Rattle.who.specs.Logins.{lowestFree, freshRecords}
 use Rattle.locks.specs.Good.{freshLocks}
 use Rattle.master.specs.declared.Answer.the-variants.{Refused, Nothing, Status, Assigned, At, LoggedIn}
 use Rattle.master.specs.declared.Turned.the-variants.{Turn}
 use Rattle.master.specs.declared.Turned.the-variants as turns
-use Rattle.master.specs.Answers.{Told, told}
+use Rattle.master.specs.Answers.{Told, told, turnTold}
 use Rattle.master.specs.Refusals.{refusal}
 use Rattle.master.specs.Fresh.{sized, freshTold}
 use Rattle.master.specs.Frames.{placeTold, hasFree, nameFound, loginAnswer, assignable, rowAnswer, assignAnswer, answerTo, frameTold}
-use Rattle.master.specs.Polls.{turnTold, dueAt, outAt, pollRefusal, pollTold}
+use Rattle.master.specs.Polls.{dueAt, outAt, pollRefusal, pollTold}
 use Rattle.exchange.specs.Runs.{frame, turn, Run, start, _then_, after, tables, Played, fresh, serve, poll-turn}
 
 -- an answer that tells it
@@ -39,7 +38,7 @@ place-given p = by-eq (p .refusal) 0
     (λ ne. record { answer = Refused (p .refusal); tells = rw (ne-eqb (p .refusal) 0 ne) })
 
 login-given : (q : Request) (s w : List ℕ) → Given told (loginAnswer q s w)
-unfolding loginAnswer told flag
+unfolding loginAnswer told
 login-given q s w = by-test (hasFree w)
     (λ y. record { answer = LoggedIn (lowestFree w) (nameFound q s) (lowFirst (q .serial)); tells = rw y refl })
     (λ n. record { answer = LoggedIn 0 false (lowFirst (q .serial)); tells = rw n refl })

@@ -2,7 +2,7 @@
 use Prim.Native.Nat.{ℕ, _≤_}
 use mathlib.Core.Path.{_≡_, sym, ap₂, subst, _∙_}
 use mathlib.Core.Bool.{Bool, true, false}
-use mathlib.Core.List.{List, [], _∷_}
+use mathlib.Core.List.{List}
 use lib.ListN.{length}
 use borrow.Author.Tests.{eqb-true, not-false}
 use Rattle.rows.proofs.BoolLaws.{contra, refuted}
@@ -12,9 +12,9 @@ use Rattle.locks.specs.Holding.{has}
 use Rattle.locks.proofs.HoldingLaws.{one-holder}
 use Rattle.master.specs.declared.Answer.{Answer}
 use Rattle.master.specs.declared.Turned.{Turned}
-use Rattle.master.specs.Answers.{answers, told}
+use Rattle.master.specs.Answers.{answers, told, status-byte, turnTold}
 use Rattle.master.specs.Frames.{frameTold, Serves}
-use Rattle.master.specs.Polls.{turnTold, pollTold, Polls}
+use Rattle.master.specs.Polls.{pollTold, Polls}
 use Rattle.station.specs.State.{listOf, waitOf, isListed, codeIn}
 use Rattle.station.specs.Asks.{waits}
 use Rattle.station.specs.Replies.{replyRefusal, Replies}
@@ -39,7 +39,7 @@ other-holds : {j k a b : ℕ} {h : Run} {st st′ : List ℕ} → Follows j h a 
 other-holds {j} {k} {a} {b} {h} {st} {st′} d d′ ne x l = sym (refuted (has (tables h .locks) k x) (λ p.
     ne (one-number d (subst (λ (n : ℕ). Follows n h b st′) (one-holder (table _ _ (run-good h)) k j x p (invariant j d .agrees .in-master x l)) d′))))
 
-answer-comes : {k at : ℕ} {h : Run} {st : List ℕ} → Follows k h at st → waits st ≡ true → (b s : List ℕ) → 15 ≤ length b → goodSite s ≡ true → (status : ℕ) × (answerIn h k (sent st b) s ≡ answers (status ∷ []))
+answer-comes : {k at : ℕ} {h : Run} {st : List ℕ} → Follows k h at st → waits st ≡ true → (b s : List ℕ) → 15 ≤ length b → goodSite s ≡ true → (status : ℕ) × (answerIn h k (sent st b) s ≡ answers (status-byte status))
 unfolding answerIn
 answer-comes {k} {at} {h} {st} d w b s long site =
     let i = invariant k d in

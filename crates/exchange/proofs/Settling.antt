@@ -20,7 +20,7 @@ use Rattle.locks.proofs.GoodLaws as tableLaws
 use Rattle.locks.proofs.HoldingLaws.{has-held, has-same, held-legal, LockCase, illegal, own, other, full, granted, lock-case, has-granted, UnlockCase, unlocked, refused, unlock-case, has-unlocked, unlocked-gone, has-cleared}
 use Rattle.master.specs.Tables.{goodTables}
 use Rattle.master.specs.Refusals.{refusal}
-use Rattle.master.specs.Answers.{Told, refuses, answers}
+use Rattle.master.specs.Answers.{Told, refuses, answers, status-byte}
 use Rattle.master.specs.Frames.{frameTold, frameLocks, frameRecords}
 use Rattle.station.specs.State.{waitOf, codeIn, askedIn, nothing}
 use Rattle.station.specs.Good.{goodState}
@@ -136,7 +136,7 @@ clear-settled k t = record {
 -- one own exchange: refused and nothing changes, or served and settled
 pub data Exchange (k : ℕ) (t w v : List ℕ) : Told → List ℕ → List ℕ → Type 0 where
   unserved : (j : ℕ) → Exchange k t w v (refuses j) t w
-  settles : (b : ℕ) (t′ : List ℕ) → Settles k t t′ v b → Exchange k t w v (answers (b ∷ [])) t′ w
+  settles : (b : ℕ) (t′ : List ℕ) → Settles k t t′ v b → Exchange k t w v (answers (status-byte b)) t′ w
 
 exchanged : {k : ℕ} {t w v : List ℕ} {b : ℕ} {t₁ : List ℕ} {a : Told} {t′ w′ : List ℕ} → Serving t w b t₁ a t′ w′ → Settles k t t₁ v b → Exchange k t w v a t′ w′
 exchanged (OwnFrames.Serving.refused j) s = unserved j
@@ -194,7 +194,7 @@ module _ {n : ℕ} (w : List ℕ) {t : List ℕ} (g : tableLaws.Good n (loggedIn
   waited-refusal good site in-now (unlocking x long) = (omega (arith, long), not-refused k (awaited UNLOCK x) s t w good site in-now UNLOCK refl (rw long) refl refl refl refl)
   waited-refusal good site in-now clearing = (omega arith, not-refused k (CLEAR ∷ []) s t w good site in-now CLEAR refl refl refl refl refl refl)
 
-  pub own-answer : goodTables t w ≡ true → goodSite s ≡ true → loggedIn w k ≡ true → (st b : List ℕ) → goodState st ≡ true → waits st ≡ true → 15 ≤ length b → (status : ℕ) × (frameTold k (sent st b) s t w ≡ answers (status ∷ []))
+  pub own-answer : goodTables t w ≡ true → goodSite s ≡ true → loggedIn w k ≡ true → (st b : List ℕ) → goodState st ≡ true → waits st ≡ true → 15 ≤ length b → (status : ℕ) × (frameTold k (sent st b) s t w ≡ answers (status-byte status))
   own-answer good site in-now st b sg waiting-now long =
       let a = state-awaits st sg waiting-now in
       let d = due a in

@@ -3,20 +3,19 @@ use Prim.Native.Nat.{ℕ, zero, suc, _*_, _<_}
 use native.Mathlib.Omega.{arith}
 use mathlib.Core.Path.{_≡_, refl, sym, _∙_}
 use mathlib.Core.Bool.{Bool, true, false, true≢false}
-use mathlib.Core.List.{List, [], _∷_}
+use mathlib.Core.List.{List}
 use lib.ListN.{length}
 use borrow.Author.Tests.{eq-eqb, ne-eqb}
 use Rattle.rows.specs.Rows.{row}
 use Rattle.rows.proofs.BoolLaws.{both}
 use Rattle.who.specs.Good.{goodCounts, numbers}
 use Rattle.who.specs.Logins.{loggedIn}
-use Rattle.who.specs.Records.{flag}
 use Rattle.who.specs.Turns.{isDue, missesAfter, slowAfter, isOut}
 use Rattle.who.proofs.TurnLaws.{turnsLeft, out-last, silent-left, turn-good}
 use Rattle.who.proofs.WhoLaws.{good-is, logged-below}
 use Rattle.master.specs.Tables.{goodTables}
 use Rattle.master.specs.Refusals.{ANYBODY, unknown}
-use Rattle.master.specs.Answers.{answers}
+use Rattle.master.specs.Answers.{answers, login-as, turn-was}
 use Rattle.master.specs.Polls.{stationAt, dueAt, outAt, withCounts, afterTurn, turnRecords, pollRefusal, pollTold, pollRecords}
 use Rattle.master.proofs.Deeds.{records-good}
 use Rattle.master.proofs.Keeps.{logout-out, RecordCase, same, by-login, by-logout, frame-record}
@@ -34,7 +33,7 @@ pub record Stands (k m s : ℕ) (h : Run) : Type 0 where
   pub slow : stationAt (tables h .records) k .slow ≡ s
 
 -- from its login
-pub begun : (k : ℕ) (h : Run) (f s : List ℕ) (found serial : ℕ) → (k ≡ 0 → ⊥) → answerIn h ANYBODY f s ≡ answers (k ∷ found ∷ serial ∷ []) → Stands k 0 0 (h then frame ANYBODY f s)
+pub begun : (k : ℕ) (h : Run) (f s : List ℕ) (found : Bool) (serial : ℕ) → (k ≡ 0 → ⊥) → answerIn h ANYBODY f s ≡ answers (login-as k found serial) → Stands k 0 0 (h then frame ANYBODY f s)
 unfolding goodCounts
 begun k h f s found serial nz e =
     let n = begins k h f s found serial nz e in record { inside = n .is-in; counts = refl; misses = n .no-misses; slow = n .no-slow }
@@ -87,7 +86,7 @@ module _ (k : ℕ) (nz : k ≡ 0 → ⊥) where
     unfolding pollRefusal unknown
     taken = rw (good, in-now, ne-eqb k 0 nz, ne-eqb k ANYBODY (λ (e : k ≡ ANYBODY). omega (arith, below)))
 
-    tells : pollTold k false t w ≡ answers (flag (dueAt w k) ∷ flag (outAt w k false) ∷ [])
+    tells : pollTold k false t w ≡ answers (turn-was (dueAt w k) (outAt w k false))
     unfolding pollTold
     tells = rw taken
 
@@ -136,7 +135,7 @@ module _ (k : ℕ) (nz : k ≡ 0 → ⊥) where
     pub on-yet : (j : ℕ) → suc j < turnsLeft m s → isOut m s false ≡ false
     on-yet j l = out-last m s (st .counts) ∙ ne-eqb (turnsLeft m s) 1 (λ e. omega arith)
 
-    pub turn-tells : turnIn h k false ≡ answers (flag (isDue m s) ∷ flag (isOut m s false) ∷ [])
+    pub turn-tells : turnIn h k false ≡ answers (turn-was (isDue m s) (isOut m s false))
     unfolding turnIn
     turn-tells = tells _ _ (run-good h) (st .inside) ∙ rw (due-is, out-is)
 

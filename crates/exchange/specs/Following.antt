@@ -15,14 +15,14 @@
 use Prim.Native.Nat.{ℕ}
 use mathlib.Core.Path.{_≡_}
 use mathlib.Core.Bool.{Bool, true, _||_}
-use mathlib.Core.List.{List, [], _∷_}
+use mathlib.Core.List.{List}
 use lib.Dec.{eqb}
 use lib.ListN.{length, take}
 use Rattle.terms.specs.declared.LockString.{LockString}
 use Rattle.frames.specs.Table.{ACKNOWLEDGE, READ, WRITE, ASSIGN, LOGOUT}
 use Rattle.frames.specs.Reading.{code}
 use Rattle.who.specs.Logins.{loggedIn}
-use Rattle.master.specs.Answers.{answers}
+use Rattle.master.specs.Answers.{answers, status-byte, login-as}
 use Rattle.master.specs.Refusals.{ANYBODY}
 use Rattle.station.specs.Asks.{afterLock, afterUnlock, afterClear, Asks, freshState, sentOf, bufferAfter}
 use Rattle.station.specs.Replies.{Replies}
@@ -38,8 +38,8 @@ sent st b = take (sentOf st (length b) .length) (bufferAfter st b)
 
 pub data Follows (k : ℕ) : Run → ℕ → List ℕ → Type 0 where
   -- a login at 253 that is answered with the number k, not 0: a fresh state
-  logs-in : (h : Run) (f s : List ℕ) (found serial : ℕ) → (k ≡ 0 → ⊥)
-      → answerIn h ANYBODY f s ≡ answers (k ∷ found ∷ serial ∷ [])
+  logs-in : (h : Run) (f s : List ℕ) (found : Bool) (serial : ℕ) → (k ≡ 0 → ⊥)
+      → answerIn h ANYBODY f s ≡ answers (login-as k found serial)
       → Follows k (h then frame ANYBODY f s) (size h) freshState
   -- any frame of anybody else, at any other number, with any site file
   others : {h : Run} {at : ℕ} {st : List ℕ} (n : ℕ) (f s : List ℕ) → (n ≡ k → ⊥)
@@ -59,7 +59,7 @@ pub data Follows (k : ℕ) : Run → ℕ → List ℕ → Type 0 where
       → Follows k h at st → Follows k (h then frame k (sent st b) s) at st
   -- or the reply comes, and the station takes it
   hears : {h : Run} {at : ℕ} {st : List ℕ} (b s : List ℕ) (status r : ℕ) (st′ : List ℕ)
-      → answerIn h k (sent st b) s ≡ answers (status ∷ []) → Replies st status r st′
+      → answerIn h k (sent st b) s ≡ answers (status-byte status) → Replies st status r st′
       → Follows k h at st → Follows k (h then frame k (sent st b) s) at st′
   -- it acknowledges, reads, writes or assigns; what comes back is no reply here
   sides : {h : Run} {at : ℕ} {st : List ℕ} (f s : List ℕ) → sideFrame f ≡ true

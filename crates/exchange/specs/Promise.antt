@@ -16,7 +16,7 @@
 use Prim.Native.Nat.{ℕ, _≤_}
 use mathlib.Core.Path.{_≡_}
 use mathlib.Core.Bool.{Bool, true, false}
-use mathlib.Core.List.{List, [], _∷_}
+use mathlib.Core.List.{List}
 use lib.ListN.{length}
 use Rattle.terms.specs.declared.LockString.{LockString}
 use Rattle.site.specs.Rules.{goodSite}
@@ -25,9 +25,9 @@ use Rattle.locks.specs.Holding.{has}
 use Rattle.master.specs.Tables.{goodTables}
 use Rattle.master.specs.declared.Answer.{Answer}
 use Rattle.master.specs.declared.Turned.{Turned}
-use Rattle.master.specs.Answers.{answers, told}
+use Rattle.master.specs.Answers.{answers, told, status-byte, turnTold}
 use Rattle.master.specs.Frames.{Serves}
-use Rattle.master.specs.Polls.{turnTold, Polls}
+use Rattle.master.specs.Polls.{Polls}
 use Rattle.station.specs.State.{listOf, isListed}
 use Rattle.station.specs.Good.{goodState}
 use Rattle.station.specs.Asks.{waits}
@@ -49,8 +49,8 @@ pub record Promise : Type 0 where
   pub alone : {j k a b : ℕ} {h : Run} {st st′ : List ℕ} → Follows j h a st → Follows k h b st′ → (a ≡ b → ⊥) → (x : LockString) → lists st x ≡ true → lists st′ x ≡ false
   pub inside : {k at : ℕ} {h : Run} {st : List ℕ} → Follows k h at st → loggedIn (tables h .records) k ≡ true
   pub answered : {k at : ℕ} {h : Run} {st : List ℕ} → Follows k h at st → waits st ≡ true → (b s : List ℕ) → 15 ≤ length b → goodSite s ≡ true
-      → (status : ℕ) × (answerIn h k (sent st b) s ≡ answers (status ∷ []))
-  pub taken : {k at : ℕ} {h : Run} {st : List ℕ} → Follows k h at st → (b s : List ℕ) (status : ℕ) → answerIn h k (sent st b) s ≡ answers (status ∷ [])
+      → (status : ℕ) × (answerIn h k (sent st b) s ≡ answers (status-byte status))
+  pub taken : {k at : ℕ} {h : Run} {st : List ℕ} → Follows k h at st → (b s : List ℕ) (status : ℕ) → answerIn h k (sent st b) s ≡ answers (status-byte status)
       → (r : ℕ) (st′ : List ℕ) → Replies st status r st′ → (r ≡ 0) × (waits st′ ≡ false)
   pub tables-good : (h : Run) → goodTables (tables h .locks) (tables h .records) ≡ true
   pub state-good : {k at : ℕ} {h : Run} {st : List ℕ} → Follows k h at st → goodState st ≡ true

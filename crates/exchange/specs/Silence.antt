@@ -3,20 +3,19 @@
 use Prim.Native.Nat.{ℕ, suc, _-_, _%_, _<_}
 use mathlib.Core.Path.{_≡_}
 use mathlib.Core.Bool.{Bool, true, false, _||_}
-use mathlib.Core.List.{List, [], _∷_}
+use mathlib.Core.List.{List}
 use lib.Dec.{eqb, leb}
 use Rattle.terms.specs.declared.LockString.{LockString}
-use Rattle.who.specs.Records.{flag}
 use Rattle.who.specs.Logins.{loggedIn}
-use Rattle.master.specs.Answers.{answers}
+use Rattle.master.specs.Answers.{answers, login-as, turn-was}
 use Rattle.master.specs.Refusals.{ANYBODY}
 use Rattle.exchange.specs.Runs.{frame, turn, Run, _then_, tables, answerIn, turnIn}
 use Rattle.exchange.specs.Promise.{holds}
 
 -- k has logged in, and since then t poll turns of k have passed, none of them heard
 pub data Silent (k : ℕ) : Run → ℕ → Type 0 where
-  logs-in : (h : Run) (f s : List ℕ) (found serial : ℕ) → (k ≡ 0 → ⊥)
-      → answerIn h ANYBODY f s ≡ answers (k ∷ found ∷ serial ∷ [])
+  logs-in : (h : Run) (f s : List ℕ) (found : Bool) (serial : ℕ) → (k ≡ 0 → ⊥)
+      → answerIn h ANYBODY f s ≡ answers (login-as k found serial)
       → Silent k (h then frame ANYBODY f s) 0
   polled : {h : Run} {t : ℕ} → Silent k h t → Silent k (h then turn k false) (suc t)
   -- any frame of anybody else and any turn of another number, heard or not
@@ -32,7 +31,7 @@ dueInTurn t = leb t 160 || eqb ((t - 160) % 12) 0
 
 pub record Silence : Type 0 where
   -- what its next turn tells: due in these turns, and out in the last
-  pub told : {k t : ℕ} {h : Run} → Silent k h t → t < lastTurn → turnIn h k false ≡ answers (flag (dueInTurn (suc t)) ∷ flag (eqb (suc t) lastTurn) ∷ [])
+  pub told : {k t : ℕ} {h : Run} → Silent k h t → t < lastTurn → turnIn h k false ≡ answers (turn-was (dueInTurn (suc t)) (eqb (suc t) lastTurn))
   -- it is logged in until then, and out after that turn, with nothing in its name
   pub inside : {k t : ℕ} {h : Run} → Silent k h t → t < lastTurn → loggedIn (tables h .records) k ≡ true
   pub out : {k t : ℕ} {h : Run} → Silent k h t → suc t ≡ lastTurn → loggedIn (tables (h then turn k false) .records) k ≡ false

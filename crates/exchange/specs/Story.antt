@@ -8,7 +8,7 @@ use lib.Dec.{eqb}
 use lib.ListN.{replicate}
 use Rattle.terms.specs.declared.LockString.{LockString}
 use Rattle.who.specs.Logins.{loggedIn}
-use Rattle.master.specs.Answers.{Told, answers}
+use Rattle.master.specs.Answers.{Told, answers, no-bytes, status-byte, login-as}
 use Rattle.master.specs.Refusals.{ANYBODY}
 use Rattle.frames.specs.Table.{UNLOCK}
 use Rattle.station.specs.Asks.{askRefusal, awaited, afterLock, afterUnlock, afterClear, freshState}
@@ -123,19 +123,19 @@ answersIn (h then turn n heard) = answersIn h ++ (turnIn h n heard ∷ [])
 
 unfoldable pub said : List Told
 said =
-    answers (1 ∷ 0 ∷ 0 ∷ [])
-    ∷ answers (2 ∷ 0 ∷ 0 ∷ [])
-    ∷ answers (3 ∷ 0 ∷ 0 ∷ [])
-    ∷ answers (0x00 ∷ [])  -- lost
-    ∷ answers (0x01 ∷ [])
-    ∷ answers (0x02 ∷ [])  -- to 3
-    ∷ answers (0x81 ∷ [])
-    ∷ answers (0x00 ∷ [])  -- lost
-    ∷ answers (0x02 ∷ [])
-    ∷ answers (0x00 ∷ [])
-    ∷ answers (0x00 ∷ [])
-    ∷ answers (0x00 ∷ [])
-    ∷ answers []
+    answers (login-as 1 false 0)
+    ∷ answers (login-as 2 false 0)
+    ∷ answers (login-as 3 false 0)
+    ∷ answers (status-byte 0x00)  -- lost
+    ∷ answers (status-byte 0x01)
+    ∷ answers (status-byte 0x02)  -- to 3
+    ∷ answers (status-byte 0x81)
+    ∷ answers (status-byte 0x00)  -- lost
+    ∷ answers (status-byte 0x02)
+    ∷ answers (status-byte 0x00)
+    ∷ answers (status-byte 0x00)
+    ∷ answers (status-byte 0x00)
+    ∷ answers no-bytes
     ∷ []
 
 -- and then k is polled j times and never heard

@@ -1,8 +1,7 @@
 -- What the C program can rely on, over the contracts of the entries. `Bytes` is what the types say of every slice.
 use Prim.Native.Nat.{ℕ}
-use native.Mathlib.Omega.{arith}
 use mathlib.Core.Path.{_≡_, refl, sym, ap, _∙_}
-use mathlib.Core.List.{List, [], _∷_}
+use mathlib.Core.List.{List}
 use borrow.Author.Tests.{ne-eqb}
 use Rattle.rows.proofs.BoolLaws.{by-test, by-eq}
 pub use Rattle.rows.proofs.NumberLaws.{Bytes}
@@ -13,15 +12,15 @@ use Rattle.frames.specs.declared.Command.the-variants.{Acknowledge, Read, Write
 use Rattle.frames.specs.declared.Request.{Request}
 use Rattle.frames.specs.Reading.{requestIn}
 use Rattle.site.specs.Places.{placedBy}
-use Rattle.who.specs.Records.{flag}
-use Rattle.master.specs.Answers.{Told, refuses, answers}
+use Rattle.master.proofs.Outcomes.{no-answer}
+use Rattle.master.specs.Answers.{Told, refuses}
 use Rattle.master.specs.Refusals.{refusal}
 use Rattle.master.specs.Frames.{placeTold, hasFree, loginAnswer, answerTo, locksBy, recordsBy, frameTold, frameLocks, frameRecords}
 use Rattle.master.specs.Fresh.{sized, freshTold}
-use Rattle.master.specs.Polls.{dueAt, outAt, pollRefusal, pollTold, pollLocks, pollRecords}
-use Rattle.hinet.specs.Packing.{word, turnWord, refusalIn, toldIn}
+use Rattle.master.specs.Polls.{pollRefusal, pollTold, pollLocks, pollRecords}
+use Rattle.hinet.specs.Packing.{word, refusalIn, toldIn}
 use Rattle.hinet.specs.Entries.{placeWord, Tells, Freshened, Served, isHeard, Polled}
-use Rattle.hinet.proofs.PackLaws.{flag-small, word-back, turn-back, refused-told, no-refusal, choice-tells, refused-choice}
+use Rattle.hinet.proofs.PackLaws.{word-back, refused-told, choice-tells, refused-choice}
 use Rattle.hinet.proofs.TellLaws.{placed-fits, frame-fits, poll-small}
 
 -- any two outcomes that a contract allows are equal
@@ -52,12 +51,12 @@ module _ (n : ℕ) (f s t w : List ℕ) where
   keeps Acknowledge q k e = (refl, refl)
   keeps (Read src a) q k e = (refl, refl)
   keeps (Write src a) q k e = (refl, refl)
-  keeps (Login product) q k e = absurd (by-test (hasFree w) (λ y. no-refusal (rw y at e)) (λ m. no-refusal (rw m at e)))
+  keeps (Login product) q k e = absurd (by-test (hasFree w) (λ y. no-answer (sym (rw y at e))) (λ m. no-answer (sym (rw m at e))))
   keeps Assign q k e = (refl, refl)
-  keeps Lock q k e = absurd (no-refusal e)
-  keeps Unlock q k e = absurd (no-refusal e)
-  keeps Clear q k e = absurd (no-refusal e)
-  keeps (Logout src) q k e = absurd (no-refusal e)
+  keeps Lock q k e = absurd (no-answer (sym e))
+  keeps Unlock q k e = absurd (no-answer (sym e))
+  keeps Clear q k e = absurd (no-answer (sym e))
+  keeps (Logout src) q k e = absurd (no-answer (sym e))
 
   frame-keeps : (k : ℕ) → frameTold n f s t w ≡ refuses k → (frameLocks n f s t w ≡ t) × (frameRecords n f s t w ≡ w)
   unfolding frameTold frameLocks frameRecords
@@ -77,24 +76,14 @@ module _ (n : ℕ) (f s t w : List ℕ) where
         let kept = frame-keeps (refusalIn r) (told .0) in
         (told .1, done .locks ∙ kept .0, done .stations ∙ kept .1)
 
-pub polled-one : {n heard : ℕ} {t w t′ w′ t″ w″ : List ℕ} {r q : ℕ} → Polled n heard t w r t′ w′ → Polled n heard t w q t″ w″ → (r ≡ q) × (t′ ≡ t″) × (w′ ≡ w″)
-polled-one x y = (x .answer ∙ sym (y .answer), x .locks ∙ sym (y .locks), x .stations ∙ sym (y .stations))
-
 -- the word of a turn, taken apart, tells what the master tells; a refused turn is its number alone, and both tables are as they were
 module _ (n heard : ℕ) (t w : List ℕ) (r : ℕ) (t′ w′ : List ℕ) (done : Polled n heard t w r t′ w′) where
-  values : List ℕ
-  values = flag (dueAt w n) ∷ flag (outAt w n (isHeard heard)) ∷ []
-
-  values-back : toldIn (turnWord (answers values)) ≡ answers values
-  unfolding values
-  values-back = turn-back _ _ (omega (arith, flag-small (dueAt w n))) (omega (arith, flag-small (outAt w n (isHeard heard))))
-
   pub poll-word-tells : toldIn r ≡ pollTold n (isHeard heard) t w
-  unfolding turnWord pollTold values
-  poll-word-tells = choice-tells turnWord (λ k. refl) (pollRefusal n (isHeard heard) t w) (poll-small n (isHeard heard) t w) values values-back r (done .answer)
+  unfolding pollTold
+  poll-word-tells = choice-tells (pollRefusal n (isHeard heard) t w) (poll-small n (isHeard heard) t w) _ tt r (done .answer)
 
   pub refused-poll-untouched : (refusalIn r ≡ 0 → ⊥) → (r ≡ refusalIn r) × (t′ ≡ t) × (w′ ≡ w)
-  unfolding turnWord pollTold pollLocks pollRecords values
+  unfolding pollTold pollLocks pollRecords
   refused-poll-untouched ne =
-      let told = refused-choice turnWord (λ k. refl) (pollRefusal n (isHeard heard) t w) (poll-small n (isHeard heard) t w) values values-back r (done .answer) ne in
+      let told = refused-choice (pollRefusal n (isHeard heard) t w) (poll-small n (isHeard heard) t w) _ tt r (done .answer) ne in
       (told .0, done .locks ∙ rw (told .2), done .stations ∙ rw (told .2))

@@ -3,7 +3,7 @@ use Prim.Native.Nat.{ℕ, zero, suc, min, _<_}
 use native.Mathlib.Omega.{arith}
 use mathlib.Core.Path.{_≡_, refl, sym, ap, _∙_}
 use mathlib.Core.Bool.{Bool, true, false, cond, not, _&&_}
-use mathlib.Core.List.{List, [], _∷_}
+use mathlib.Core.List.{List}
 use lib.Dec.{eqb, leb, ltb}
 use lib.ListN.{length}
 use borrow.Author.Tests.{ne-eqb, ltb-true, ltb-false}
@@ -11,16 +11,16 @@ use Rattle.rows.proofs.BoolLaws.{by-test, by-eq}
 use Rattle.rows.specs.Outcomes.{Leaves}
 use Rattle.terms.specs.Strings.{legal}
 use Rattle.frames.specs.Table.{LOCK, UNLOCK, CLEAR}
-use Rattle.master.specs.Answers.{answers}
 use Rattle.station.specs.State.{limit, stateLength, listOf, waitOf, listed, codeIn, askedIn}
 use Rattle.station.specs.Good.{goodState}
 use Rattle.station.specs.Asks.{freshState, waits, askRefusal, frameAwaited, sendRefusal, sentOf, bufferAfter}
 use Rattle.station.specs.Replies.{fits, grants, carriesLength, adds, replyRefusal, Replies}
 use Rattle.station.proofs.Cases.{sent-short}
-use Rattle.hinet.specs.Packing.{word, writtenWord, refusalIn, toldIn}
+use Rattle.hinet.specs.Packing.{word, refusalIn, toldIn}
 use Rattle.hinet.specs.StationEntries.{stepTold, Steps, freshRefusal, Freshly, Takes, sentTold, Sends}
-use Rattle.hinet.proofs.PackLaws.{word-back, written-back, choice-tells, refused-choice}
+use Rattle.hinet.proofs.PackLaws.{choice-tells, refused-choice}
 use Rattle.hinet.proofs.TellLaws.{either}
+use Rattle.master.specs.Answers.{no-bytes, frame-of}
 
 -- the word of a step is its refusal, 0 for none
 pub step-word : (k : ℕ) → word (stepTold k) ≡ k
@@ -86,13 +86,13 @@ reply-small st n =
 -- a step: its word tells the refusal, and a refused one is its number alone and leaves the state as it was
 module _ {k : ℕ} (small : k < 256) {after st : List ℕ} {r : ℕ} {st′ : List ℕ} (done : Steps k after st r st′) where
   pub step-word-tells : toldIn r ≡ stepTold k
-  unfolding stepTold word
-  step-word-tells = choice-tells word (λ k. refl) k small [] (word-back (answers []) tt) r (done .answer)
+  unfolding stepTold
+  step-word-tells = choice-tells k small no-bytes tt r (done .answer)
 
   pub refused-step-untouched : (refusalIn r ≡ 0 → ⊥) → (r ≡ refusalIn r) × (r ≡ k) × (st′ ≡ st)
-  unfolding stepTold word
+  unfolding stepTold
   refused-step-untouched ne =
-      let told = refused-choice word (λ k. refl) k small [] (word-back (answers []) tt) r (done .answer) ne in
+      let told = refused-choice k small no-bytes tt r (done .answer) ne in
       (told .0, told .1, done .left ∙ rw (told .2))
 
 -- the refusal of a frame sent
@@ -108,12 +108,12 @@ module _ (st : List ℕ) (n : ℕ) where
 -- the word of a frame sent tells its length; a refused one is its number alone and leaves the buffer as it was
 module _ (st b : List ℕ) (r : ℕ) (b′ : List ℕ) (done : Sends st b r b′) where
   pub send-word-tells : toldIn r ≡ sentTold (sentOf st (length b))
-  unfolding sentTold writtenWord
-  send-word-tells = choice-tells writtenWord (λ k. refl) (sentOf st (length b) .refusal) (send-small st (length b)) (sentOf st (length b) .length ∷ []) (written-back _ (sent-short st (length b))) r (done .answer)
+  unfolding sentTold
+  send-word-tells = choice-tells (sentOf st (length b) .refusal) (send-small st (length b)) (frame-of (sentOf st (length b) .length)) (sent-short st (length b)) r (done .answer)
 
   pub refused-send-untouched : (refusalIn r ≡ 0 → ⊥) → (r ≡ refusalIn r) × (b′ ≡ b)
-  unfolding sentTold writtenWord bufferAfter
+  unfolding sentTold bufferAfter
   refused-send-untouched ne =
-      let told = refused-choice writtenWord (λ k. refl) (sentOf st (length b) .refusal) (send-small st (length b)) (sentOf st (length b) .length ∷ []) (written-back _ (sent-short st (length b))) r (done .answer) ne in
+      let told = refused-choice (sentOf st (length b) .refusal) (send-small st (length b)) (frame-of (sentOf st (length b) .length)) (sent-short st (length b)) r (done .answer) ne in
       let refused = rw (sent-refusal st (length b)) at (told .2) in
       (told .0, done .left ∙ rw refused)

@@ -34,9 +34,9 @@ use Rattle.who.specs.Logins.{lowestFree}
 use Rattle.locks.specs.Table.{rowCount, freeAt, isHeld, isOwn, lockStatus, unlocks, unlockStatus}
 use Rattle.master.specs.Refusals.{ANYBODY, unknown, misplaced, dtnSet, srcDiffers, placeRefusal, frameTests, frameRefusal, refusal}
 use Rattle.master.specs.Tables.{goodTables}
-use Rattle.master.specs.Frames.{placeTold, hasFree, nameFound, loginAnswer, rowAnswer, assignable, assignAnswer, answerTo, frameTold}
+use Rattle.master.specs.Frames.{placeTold, hasFree, loginAnswer, rowAnswer, assignable, assignAnswer, answerTo, frameTold}
 use Rattle.master.specs.Polls.{dueAt, pollRefusal}
-use Rattle.hinet.proofs.PackLaws.{flag-small, Tellable}
+use Rattle.hinet.proofs.PackLaws.{Tellable}
 
 -- what holds of both sides of a choice
 by-cond : {A : Type 0} (P : A → Type 0) (b : Bool) {x y : A} → P x → P y → P (cond b x y)
@@ -82,7 +82,7 @@ module _ (s : List ℕ) where
   login-fits : (q : Request) (w : List ℕ) → lowFirst (q .serial) < 2 ^ 32 → Tellable (loginAnswer q s w)
   unfolding loginAnswer hasFree
   login-fits q w small = by-test (hasFree w)
-      (λ y. rw y (omega (arith, ltb-true (lowestFree w) numbers y, flag-small (nameFound q s))))
+      (λ y. rw y (omega (arith, ltb-true (lowestFree w) numbers y)))
       (λ n. rw n (omega arith))
 
   control-small : Bytes s → (at : ℕ) → rowAt s at .control < 256

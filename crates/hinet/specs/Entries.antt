@@ -14,7 +14,7 @@ use Rattle.master.specs.Answers.{Told}
 use Rattle.master.specs.Frames.{placeTold, frameTold, frameLocks, frameRecords}
 use Rattle.master.specs.Fresh.{sized, freshTold}
 use Rattle.master.specs.Polls.{pollTold, pollLocks, pollRecords}
-use Rattle.hinet.specs.Packing.{word, turnWord}
+use Rattle.hinet.specs.Packing.{word}
 
 -- the checks: 0 or the refusal
 unfoldable pub tablesWord : List ℕ → List ℕ → ℕ
@@ -48,7 +48,5 @@ Served n f s t w = Tells (frameTold n f s t w) (frameLocks n f s t w) (frameReco
 unfoldable pub isHeard : ℕ → Bool
 isHeard n = not (eqb n 0)
 
-pub record Polled (n heard : ℕ) (t w : List ℕ) (r : ℕ) (t′ w′ : List ℕ) : Type 0 where
-  pub answer : r ≡ turnWord (pollTold n (isHeard heard) t w)
-  pub locks : t′ ≡ pollLocks n (isHeard heard) t w
-  pub stations : w′ ≡ pollRecords n (isHeard heard) t w
+abbrev pub Polled : ℕ → ℕ → List ℕ → List ℕ → ℕ → List ℕ → List ℕ → Type 0
+Polled n heard t w = Tells (pollTold n (isHeard heard) t w) (pollLocks n (isHeard heard) t w) (pollRecords n (isHeard heard) t w)

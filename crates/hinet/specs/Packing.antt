@@ -1,11 +1,11 @@
 -- The word that an entry returns: bits 0 to 7 the refusal, bits 8 to 15 the kind of answer, bits 16 to 63 its bytes, lowest first.
 use Prim.Native.Nat.{ℕ, _+_, _*_, _/_, _%_, _^_}
-use mathlib.Core.Bool.{cond}
-use mathlib.Core.List.{List, [], _∷_}
+use mathlib.Core.Bool.{Bool, cond}
 use lib.Dec.{eqb}
-use Rattle.master.specs.Answers.{Told, refuses, answers}
+use Rattle.who.specs.Records.{flag}
+use Rattle.master.specs.Answers.{Told, refuses, answers, Answered, no-bytes, status-byte, assign-bytes, place-at, login-as, turn-was, frame-of}
 
--- the kinds of answer; an entry with nothing to tell returns 0
+-- the kinds of answer; an entry with nothing more to tell returns 0
 abbrev pub STATUS : ℕ
 STATUS = 1
 
@@ -18,37 +18,23 @@ PLACE = 3
 abbrev pub LOGIN : ℕ
 LOGIN = 4
 
--- the number of values tells the kind; a sector and a serial take four bytes, every other value takes one
-unfoldable pub word : Told → ℕ
-word (refuses k) = k
-word (answers []) = 0
-word (answers (status ∷ [])) = STATUS * 2 ^ 8 + status * 2 ^ 16
-word (answers (volume ∷ sector ∷ [])) = PLACE * 2 ^ 8 + volume * 2 ^ 16 + sector * 2 ^ 24
-word (answers (number ∷ found ∷ serial ∷ [])) = LOGIN * 2 ^ 8 + number * 2 ^ 16 + found * 2 ^ 24 + serial * 2 ^ 32
-word (answers (size ∷ partition ∷ control ∷ volume ∷ [])) =
-    ASSIGN * 2 ^ 8 + size * 2 ^ 16 + partition * 2 ^ 24 + control * 2 ^ 32 + volume * 2 ^ 40
-word (answers (a ∷ b ∷ c ∷ d ∷ e ∷ more)) = 0
-
--- a poll turn has a kind of its own: due, and logged out
 abbrev pub TURN : ℕ
 TURN = 5
 
-unfoldable pub turnWord : Told → ℕ
-turnWord (refuses k) = k
-turnWord (answers []) = 0
-turnWord (answers (due ∷ [])) = 0
-turnWord (answers (due ∷ out ∷ [])) = TURN * 2 ^ 8 + due * 2 ^ 16 + out * 2 ^ 24
-turnWord (answers (a ∷ b ∷ c ∷ more)) = 0
-
--- a frame that a station sends has one too: its length
 abbrev pub WRITTEN : ℕ
 WRITTEN = 6
 
-unfoldable pub writtenWord : Told → ℕ
-writtenWord (refuses k) = k
-writtenWord (answers []) = 0
-writtenWord (answers (length ∷ [])) = WRITTEN * 2 ^ 8 + length * 2 ^ 16
-writtenWord (answers (a ∷ b ∷ more)) = 0
+-- a sector and a serial take four bytes, every other value takes one
+unfoldable pub word : Told → ℕ
+word (refuses k) = k
+word (answers no-bytes) = 0
+word (answers (status-byte status)) = STATUS * 2 ^ 8 + status * 2 ^ 16
+word (answers (assign-bytes size partition control volume)) =
+    ASSIGN * 2 ^ 8 + size * 2 ^ 16 + partition * 2 ^ 24 + control * 2 ^ 32 + volume * 2 ^ 40
+word (answers (place-at volume sector)) = PLACE * 2 ^ 8 + volume * 2 ^ 16 + sector * 2 ^ 24
+word (answers (login-as number found serial)) = LOGIN * 2 ^ 8 + number * 2 ^ 16 + flag found * 2 ^ 24 + serial * 2 ^ 32
+word (answers (turn-was due out)) = TURN * 2 ^ 8 + flag due * 2 ^ 16 + flag out * 2 ^ 24
+word (answers (frame-of length)) = WRITTEN * 2 ^ 8 + length * 2 ^ 16
 
 -- how the C program takes a word apart: the refusal, the kind, and n bytes of the answer from byte i on
 unfoldable pub refusalIn : ℕ → ℕ
@@ -60,16 +46,19 @@ kindIn x = x / 2 ^ 8 % 2 ^ 8
 unfoldable pub bytesIn : ℕ → ℕ → ℕ → ℕ
 bytesIn x i n = x / 2 ^ (16 + 8 * i) % 2 ^ (8 * n)
 
--- the values of an answer, by its kind
-unfoldable pub valuesIn : ℕ → List ℕ
-valuesIn x =
-    cond (eqb (kindIn x) STATUS) (bytesIn x 0 1 ∷ [])
-    (cond (eqb (kindIn x) ASSIGN) (bytesIn x 0 1 ∷ bytesIn x 1 1 ∷ bytesIn x 2 1 ∷ bytesIn x 3 1 ∷ [])
-    (cond (eqb (kindIn x) PLACE) (bytesIn x 0 1 ∷ bytesIn x 1 4 ∷ [])
-    (cond (eqb (kindIn x) LOGIN) (bytesIn x 0 1 ∷ bytesIn x 1 1 ∷ bytesIn x 2 4 ∷ [])
-    (cond (eqb (kindIn x) TURN) (bytesIn x 0 1 ∷ bytesIn x 1 1 ∷ [])
-    (cond (eqb (kindIn x) WRITTEN) (bytesIn x 0 1 ∷ [])
-    [])))))
+unfoldable pub flagIn : ℕ → ℕ → Bool
+flagIn x i = eqb (bytesIn x i 1) 1
+
+-- the answer in a word, by its kind
+unfoldable pub answeredIn : ℕ → Answered
+answeredIn x =
+    cond (eqb (kindIn x) STATUS) (status-byte (bytesIn x 0 1))
+    (cond (eqb (kindIn x) ASSIGN) (assign-bytes (bytesIn x 0 1) (bytesIn x 1 1) (bytesIn x 2 1) (bytesIn x 3 1))
+    (cond (eqb (kindIn x) PLACE) (place-at (bytesIn x 0 1) (bytesIn x 1 4))
+    (cond (eqb (kindIn x) LOGIN) (login-as (bytesIn x 0 1) (flagIn x 1) (bytesIn x 2 4))
+    (cond (eqb (kindIn x) TURN) (turn-was (flagIn x 0) (flagIn x 1))
+    (cond (eqb (kindIn x) WRITTEN) (frame-of (bytesIn x 0 1))
+    no-bytes)))))
 
 unfoldable pub toldIn : ℕ → Told
-toldIn x = cond (eqb (refusalIn x) 0) (answers (valuesIn x)) (refuses (refusalIn x))
+toldIn x = cond (eqb (refusalIn x) 0) (answers (answeredIn x)) (refuses (refusalIn x))

@@ -7,8 +7,8 @@ ghost use mathlib.Core.Path.{_≡_};
 ghost use Prim.Native.Nat.{min};
 ghost use Rattle.master.specs.Answers.{told};
 ghost use Rattle.master.specs.Frames.{placeTold};
-ghost use Rattle.master.specs.Polls.{turnTold};
-ghost use Rattle.hinet.specs.Packing.{word, turnWord, writtenWord};
+ghost use Rattle.master.specs.Answers.{turnTold};
+ghost use Rattle.hinet.specs.Packing.{word};
 ghost use Rattle.hinet.specs.StationEntries.{stepTold, sentTold};
 
 // The kinds of answer, in bits 8 to 15.
@@ -70,7 +70,7 @@ pub fn pack_place(placed: Placed) -> u64
 }
 
 pub fn pack_turn(a: Turned) -> u64
-    ensures { λ r. ⌜ r ≡ turnWord (turnTold a) ⌝ }
+    ensures { λ r. ⌜ r ≡ word (turnTold a) ⌝ }
 {
     match a {
         Turned::Refused(k) => k as u64,
@@ -87,7 +87,7 @@ pub fn pack_step(refusal: u8) -> u64
 
 // A frame sent: its refusal, or its length.
 pub fn pack_sent(sent: Sent) -> u64
-    ensures { λ r. ⌜ r ≡ writtenWord (sentTold sent) ⌝ }
+    ensures { λ r. ⌜ r ≡ word (sentTold sent) ⌝ }
 {
     let refusal = sent.refusal;
     if refusal != 0 {

@@ -1,20 +1,21 @@
 -- No line is longer than the room that is asked for it.
 use Prim.Native.Nat.{ℕ, _≤_}
 use native.Mathlib.Omega.{arith}
-use mathlib.Core.List.{[], _∷_}
 use lib.ListN.{length, length-append}
-use Rattle.master.specs.Answers.{Told, refuses, answers}
+use Rattle.master.specs.Answers.{Told, refuses, answers, no-bytes, status-byte, assign-bytes, place-at, login-as, turn-was, frame-of}
 use Rattle.lines.proofs.DigitLaws.{decimal-long}
 use Rattle.lines.specs.Line.{decimal, hexByte, answerText, refusalNumber, column, columns, lineText}
 
 pub answer-long : (t : Told) → length (answerText t) ≤ 41
 unfolding answerText hexByte
 answer-long (refuses k) = omega arith
-answer-long (answers []) = omega arith
-answer-long (answers (status ∷ [])) = omega arith
-answer-long (answers (volume ∷ sector ∷ [])) = simp length-append (omega (arith, decimal-long volume, decimal-long sector))
-answer-long (answers (number ∷ found ∷ serial ∷ [])) = omega arith
-answer-long (answers (size ∷ partition ∷ control ∷ volume ∷ more)) = omega arith
+answer-long (answers no-bytes) = omega arith
+answer-long (answers (status-byte status)) = omega arith
+answer-long (answers (place-at volume sector)) = simp length-append (omega (arith, decimal-long volume, decimal-long sector))
+answer-long (answers (login-as number found serial)) = omega arith
+answer-long (answers (assign-bytes size partition control volume)) = omega arith
+answer-long (answers (turn-was due out)) = omega arith
+answer-long (answers (frame-of l)) = omega arith
 
 -- a column of decimal digits, and one of a byte
 pub number-long : (n : ℕ) → length (column (decimal n)) ≤ 21

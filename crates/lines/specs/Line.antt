@@ -1,12 +1,12 @@
 -- The text of a session line, as bytes: record index, number in hex, refusal, answer.
 use Prim.Native.Nat.{ℕ, zero, suc, _+_, _-_, _/_, _%_}
-use mathlib.Core.Bool.{cond}
+use mathlib.Core.Bool.{Bool, cond}
 use mathlib.Core.List.{List, [], _∷_, _++_}
-use lib.Dec.{eqb, ltb}
+use lib.Dec.{ltb}
 use lib.ListN.{length}
 use Rattle.rows.specs.Rows.{put}
 use Rattle.rows.specs.Outcomes.{Leaves}
-use Rattle.master.specs.Answers.{Told, refuses, answers}
+use Rattle.master.specs.Answers.{Told, refuses, answers, no-bytes, status-byte, assign-bytes, place-at, login-as, turn-was, frame-of}
 
 -- the characters, by their ASCII codes
 abbrev pub NEWLINE : ℕ
@@ -44,22 +44,24 @@ decimal n = decimalIn 20 n
 unfoldable pub hexByte : ℕ → List ℕ
 hexByte b = digit (b / 16) ∷ digit (b % 16) ∷ []
 
-unfoldable pub yesOrNo : ℕ → ℕ
-yesOrNo found = cond (eqb found 0) NO YES
+unfoldable pub yesOrNo : Bool → ℕ
+yesOrNo found = cond found YES NO
 
 -- status or assign bytes in hex, place as decimal volume:sector, login as number in hex and Y or N, otherwise a dash
 unfoldable pub answerText : Told → List ℕ
 answerText (refuses k) = DASH ∷ []
-answerText (answers []) = DASH ∷ []
-answerText (answers (status ∷ [])) = hexByte status
-answerText (answers (volume ∷ sector ∷ [])) = decimal volume ++ (COLON ∷ decimal sector)
-answerText (answers (number ∷ found ∷ serial ∷ [])) = hexByte number ++ (yesOrNo found ∷ [])
-answerText (answers (size ∷ partition ∷ control ∷ volume ∷ more)) = hexByte size ++ (hexByte partition ++ (hexByte control ++ hexByte volume))
+answerText (answers no-bytes) = DASH ∷ []
+answerText (answers (status-byte status)) = hexByte status
+answerText (answers (place-at volume sector)) = decimal volume ++ (COLON ∷ decimal sector)
+answerText (answers (login-as number found serial)) = hexByte number ++ (yesOrNo found ∷ [])
+answerText (answers (assign-bytes size partition control volume)) = hexByte size ++ (hexByte partition ++ (hexByte control ++ hexByte volume))
+answerText (answers (turn-was due out)) = DASH ∷ []
+answerText (answers (frame-of length)) = DASH ∷ []
 
 -- the refusal, 0 for none
 unfoldable pub refusalNumber : Told → ℕ
 refusalNumber (refuses k) = k
-refusalNumber (answers values) = 0
+refusalNumber (answers a) = 0
 
 -- the columns before the answer, each with a space behind it
 unfoldable pub column : List ℕ → List ℕ

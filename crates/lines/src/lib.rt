@@ -7,7 +7,6 @@ ghost use mathlib.Core.Path.{_≡_};
 ghost use mathlib.Core.List.{[], _∷_, _++_};
 ghost use Prim.Native.Nat.{_+_, _≤_, _<_};
 ghost use lib.ListN.{length, drop};
-ghost use Rattle.who.specs.Records.{flag};
 ghost use Rattle.master.specs.Answers.{told};
 ghost use Rattle.lines.specs.Line.{digit as digitOf, decimal, hexByte, yesOrNo, answerText, refusalNumber, column, columns, lineText, COLON, ROOM, Writes};
 
@@ -118,7 +117,7 @@ fn write_place(buffer: &mut [u8], at: usize, place: Place) -> usize
 }
 
 fn yes_or_no(found: bool) -> u8
-    ensures { λ r. ⌜ r ≡ yesOrNo (flag found) ⌝ }
+    ensures { λ r. ⌜ r ≡ yesOrNo found ⌝ }
 {
     if found { b'Y' } else { b'N' }
 }
@@ -126,7 +125,7 @@ fn yes_or_no(found: bool) -> u8
 // The number in hex, and whether the name was found.
 fn write_login(buffer: &mut [u8], at: usize, number: u8, found: bool) -> usize
     requires { ⌜ at + 3 ≤ length (now buffer) ⌝ }
-    ensures { λ r. ⌜ Writes (hexByte number ++ (yesOrNo (flag found) ∷ [])) (now (buffer .entry)) at r (now (buffer .exit)) ⌝ }
+    ensures { λ r. ⌜ Writes (hexByte number ++ (yesOrNo found ∷ [])) (now (buffer .entry)) at r (now (buffer .exit)) ⌝ }
 {
     let a = write_hex(buffer, at, number);
     write_byte(buffer, a, yes_or_no(found))

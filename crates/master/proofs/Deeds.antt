@@ -3,7 +3,7 @@ use Prim.Native.Nat.{ℕ, _<_}
 use native.Mathlib.Omega.{arith}
 use mathlib.Core.Path.{_≡_, refl, sym, _∙_}
 use mathlib.Core.Bool.{Bool, true, false, cond, not, _||_}
-use mathlib.Core.List.{List, [], _∷_}
+use mathlib.Core.List.{List}
 use lib.Dec.{eqb, ltb}
 use lib.ListN.{length, getD}
 use borrow.Author.Tests.{eqb-true, eq-eqb, ne-eqb, ltb-true, not-false}
@@ -20,14 +20,13 @@ use Rattle.frames.proofs.TableLaws.{Code, acknowledge, read, write, login, assi
 use Rattle.frames.proofs.ReadLaws.{well-long}
 use Rattle.site.specs.Rules.{goodSite}
 use Rattle.site.specs.declared.Placed.{Placed}
-use Rattle.who.specs.Records.{flag}
 use Rattle.who.specs.Good.{goodRecords, numbers}
 use Rattle.who.specs.Logins.{loggedIn, lowestFree, loggedInAs, afterLogin, afterLogout}
 use Rattle.who.proofs.WhoLaws.{good-is}
 use Rattle.locks.specs.Good.{goodLocks}
 use Rattle.locks.specs.Table.{lockStatus, lockTable, unlockStatus, unlockTable, clearedTable}
 use Rattle.master.specs.Tables.{goodTables}
-use Rattle.master.specs.Answers.{Told, refuses, answers}
+use Rattle.master.specs.Answers.{Told, refuses, answers, Answered, no-bytes, status-byte, assign-bytes, place-at, login-as, turn-was, frame-of}
 use Rattle.master.specs.Refusals.{ANYBODY, misplaced, placeRefusal, frameTests, frameRefusal, refusal}
 use Rattle.master.specs.Frames.{placeTold, hasFree, loginAnswer, loginRecords, rowAnswer, assignable, assignAnswer, answerTo, locksBy, recordsBy, frameTold, frameLocks, frameRecords}
 use Rattle.master.proofs.RefusalLaws.{Passed, passed, tests-stop, reads-well, seat-in}
@@ -41,26 +40,28 @@ pub locks-good : (t w : List ℕ) → goodTables t w ≡ true → goodLocks (log
 unfolding goodTables
 locks-good t w good = and-right (goodRecords w) (goodLocks (loggedIn w) t) good
 
--- the number that an answer of three values gives: that of a login
+-- the number that the answer to a login gives; 0 for every other kind of answer
 unfoldable pub loginNumber : Told → ℕ
 loginNumber (refuses k) = 0
-loginNumber (answers []) = 0
-loginNumber (answers (a ∷ [])) = 0
-loginNumber (answers (a ∷ b ∷ [])) = 0
-loginNumber (answers (a ∷ b ∷ c ∷ [])) = a
-loginNumber (answers (a ∷ b ∷ c ∷ d ∷ l)) = 0
+loginNumber (answers no-bytes) = 0
+loginNumber (answers (status-byte s)) = 0
+loginNumber (answers (assign-bytes z p c v)) = 0
+loginNumber (answers (place-at v s)) = 0
+loginNumber (answers (login-as n f s)) = n
+loginNumber (answers (turn-was d o)) = 0
+loginNumber (answers (frame-of l)) = 0
 
 module _ (n : ℕ) (f s t w : List ℕ) where
   -- refused: nothing changes. Quiet: an answer and no change, and nobody is logged in. The others change a table
   pub data Deed : Told → List ℕ → List ℕ → Type 0 where
     refused : (k : ℕ) → (k ≡ 0 → ⊥) → Deed (refuses k) t w
-    quiet : (vs : List ℕ) → loginNumber (answers vs) ≡ 0 → Deed (answers vs) t w
+    quiet : (a : Answered) → loginNumber (answers a) ≡ 0 → Deed (answers a) t w
     logged-in : n ≡ ANYBODY → lowestFree w < numbers → (name serial : List ℕ) (product : ℕ) (found : Bool) → length name ≡ 8 → length serial ≡ 4
-        → Deed (answers (lowestFree w ∷ flag found ∷ lowFirst serial ∷ [])) t (afterLogin w (lowestFree w) (loggedInAs name serial product found))
-    locked : loggedIn w n ≡ true → (x : LockString) → length (x .bytes) ≡ 13 → Deed (answers (lockStatus t n x ∷ [])) (lockTable t n x) w
-    unlocked : loggedIn w n ≡ true → (x : LockString) → Deed (answers (unlockStatus t n x ∷ [])) (unlockTable t n x) w
-    cleared : loggedIn w n ≡ true → Deed (answers (0x00 ∷ [])) (clearedTable t n) w
-    logged-out : loggedIn w n ≡ true → (n ≡ 0 → ⊥) → Deed (answers []) (clearedTable t n) (afterLogout w n)
+        → Deed (answers (login-as (lowestFree w) found (lowFirst serial))) t (afterLogin w (lowestFree w) (loggedInAs name serial product found))
+    locked : loggedIn w n ≡ true → (x : LockString) → length (x .bytes) ≡ 13 → Deed (answers (status-byte (lockStatus t n x))) (lockTable t n x) w
+    unlocked : loggedIn w n ≡ true → (x : LockString) → Deed (answers (status-byte (unlockStatus t n x))) (unlockTable t n x) w
+    cleared : loggedIn w n ≡ true → Deed (answers (status-byte 0x00)) (clearedTable t n) w
+    logged-out : loggedIn w n ≡ true → (n ≡ 0 → ⊥) → Deed (answers no-bytes) (clearedTable t n) (afterLogout w n)
 
   -- a frame that is not refused for its tables, its site file or by one of 1 to 7
   record Heard : Type 0 where
@@ -124,7 +125,7 @@ module _ (n : ℕ) (f s t w : List ℕ) where
 
     done : Code (code f) → Done (requestIn f)
     unfolding Done requestIn stringRequest stringAt namedIn loginIn plain answerTo locksBy recordsBy frameLength lengthIn frameTable loginNumber
-    done (acknowledge e) = rw e (quiet [] refl)
+    done (acknowledge e) = rw e (quiet no-bytes refl)
     done (read e) = rw e (place-done _)
     done (write e) = rw e (place-done _)
     done (login e) = rw e (login-done e)

@@ -2,45 +2,38 @@
 use Prim.Native.Nat.{ℕ}
 use native.Mathlib.Omega.{arith}
 use mathlib.Core.Path.{_≡_, refl, sym, ap, _∙_}
-use mathlib.Core.Bool.{Bool, true, false}
-use mathlib.Core.List.{List, [], _∷_}
-use lib.Dec.{eqb}
+use mathlib.Core.List.{List}
 use borrow.Author.Tests.{ne-eqb}
-use Rattle.who.specs.Records.{flag}
 use Rattle.master.specs.declared.Answer.{Answer}
 use Rattle.master.specs.declared.Answer.the-variants.{Refused, Nothing, Status, Assigned, At, LoggedIn}
-use Rattle.master.specs.Answers.{Told, refuses, answers, told}
+use Rattle.master.specs.Answers.{Told, refuses, answers, no-bytes, status-byte, assign-bytes, place-at, login-as, turn-was, frame-of, told, Answered}
 use Rattle.master.specs.Refusals.{refusal}
 use Rattle.master.specs.Frames.{frameTold, frameLocks, frameRecords, Serves}
 use Rattle.master.specs.Fresh.{Freshens}
 
--- a flag tells its Bool
-flag-one : (a b : Bool) → flag a ≡ flag b → a ≡ b
-unfolding flag
-flag-one true true e = refl
-flag-one true false e = absurd (omega arith)
-flag-one false true e = absurd (omega arith)
-flag-one false false e = refl
+-- a refusal is no answer
+pub no-answer : {k : ℕ} {a : Answered} → refuses k ≡ answers a → ⊥
+no-answer e = let z : _≡_ {A = ℕ} 0 1 = cc in omega arith
 
 -- what an answer tells, read back
 known : Told → Answer
 known (refuses k) = Refused k
-known (answers []) = Nothing
-known (answers (s ∷ [])) = Status s
-known (answers (v ∷ s ∷ [])) = At (record { volume = record { 0 = v }; sector = s })
-known (answers (n ∷ f ∷ s ∷ [])) = LoggedIn n (eqb f 1) s
-known (answers (z ∷ p ∷ c ∷ v ∷ [])) = Assigned z (record { 0 = p }) c (record { 0 = v })
-known (answers (a ∷ b ∷ c ∷ d ∷ e ∷ l)) = Nothing
+known (answers no-bytes) = Nothing
+known (answers (status-byte s)) = Status s
+known (answers (assign-bytes z p c v)) = Assigned z (record { 0 = p }) c (record { 0 = v })
+known (answers (place-at v s)) = At (record { volume = record { 0 = v }; sector = s })
+known (answers (login-as n f s)) = LoggedIn n f s
+known (answers (turn-was d o)) = Nothing
+known (answers (frame-of l)) = Nothing
 
 known-told : (a : Answer) → known (told a) ≡ a
-unfolding known told flag
+unfolding known told
 known-told (Refused k) = refl
 known-told Nothing = refl
 known-told (Status s) = refl
 known-told (Assigned size partition control volume) = refl
 known-told (At p) = refl
-known-told (LoggedIn number true serial) = refl
-known-told (LoggedIn number false serial) = refl
+known-told (LoggedIn number found serial) = refl
 
 -- two answers that tell the same are equal
 pub told-one : (a b : Answer) → told a ≡ told b → a ≡ b

@@ -3,8 +3,7 @@ use Prim.Native.Nat.{ℕ, _<_}
 use native.Mathlib.Omega.{arith}
 use mathlib.Core.Path.{_≡_, refl, sym, ap, _∙_}
 use mathlib.Core.Bool.{Bool, true, false}
-use mathlib.Core.List.{List, [], _∷_}
-use lib.Dec.{eqb}
+use mathlib.Core.List.{List, []}
 use lib.ListN.{length}
 use borrow.Author.Tests.{eq-eqb, ne-eqb}
 use Rattle.rows.proofs.BoolLaws.{by-test, by-eq}
@@ -12,7 +11,7 @@ use Rattle.rows.proofs.RowLaws.{length-row, length-part, row-setRow}
 use Rattle.rows.specs.Rows.{row, setRow}
 use Rattle.terms.specs.declared.LockString.{LockString}
 use Rattle.who.specs.declared.Station.{Station}
-use Rattle.who.specs.Records.{flag, bytesOf, stationOf}
+use Rattle.who.specs.Records.{bytesOf, stationOf}
 use Rattle.who.specs.Good.{goodCounts, numbers}
 use Rattle.who.specs.Logins.{loggedIn, afterLogin, afterLogout}
 use Rattle.who.proofs.RecordLaws.{counts-is, length-bytesOf, station-back}
@@ -25,8 +24,8 @@ use Rattle.locks.proofs.Keeps.{login-keeps}
 use Rattle.master.specs.declared.Turned.{Turned}
 use Rattle.master.specs.declared.Turned.the-variants.{Refused, Turn}
 use Rattle.master.specs.Tables.{goodTables}
-use Rattle.master.specs.Answers.{Told, refuses, answers}
-use Rattle.master.specs.Polls.{turnTold, stationAt, dueAt, outAt, withCounts, afterTurn, turnLocks, turnRecords, pollRefusal, pollTold, pollLocks, pollRecords, Polls}
+use Rattle.master.specs.Answers.{Told, refuses, answers, no-bytes, status-byte, assign-bytes, place-at, login-as, turn-was, frame-of, turnTold}
+use Rattle.master.specs.Polls.{stationAt, dueAt, outAt, withCounts, afterTurn, turnLocks, turnRecords, pollRefusal, pollTold, pollLocks, pollRecords, Polls}
 use Rattle.master.proofs.Deeds.{records-good, locks-good}
 use Rattle.master.proofs.Keeps.{tables-are, logout-out, logout-tables, cleared-others}
 use Rattle.master.proofs.PollLaws.{seatRefusal, seat-refused, seat-in, polled-below, polled-counts}
@@ -36,9 +35,9 @@ module _ (n : ℕ) (heard : Bool) (t w : List ℕ) where
   pub data TurnDeed : Told → List ℕ → List ℕ → Type 0 where
     refused : (k : ℕ) → (k ≡ 0 → ⊥) → TurnDeed (refuses k) t w
     turned : loggedIn w n ≡ true → (n ≡ 0 → ⊥) → outAt w n heard ≡ false
-        → TurnDeed (answers (flag (dueAt w n) ∷ flag false ∷ [])) t (setRow 18 w n (bytesOf (afterTurn (stationAt w n) heard)))
+        → TurnDeed (answers (turn-was (dueAt w n) false)) t (setRow 18 w n (bytesOf (afterTurn (stationAt w n) heard)))
     dropped : loggedIn w n ≡ true → (n ≡ 0 → ⊥) → outAt w n heard ≡ true
-        → TurnDeed (answers (flag (dueAt w n) ∷ flag true ∷ [])) (clearedTable t n) (afterLogout w n)
+        → TurnDeed (answers (turn-was (dueAt w n) true)) (clearedTable t n) (afterLogout w n)
 
   -- a turn that is not refused is that of a station 1 to 63 that is logged in
   pub seated : pollRefusal n heard t w ≡ 0 → (loggedIn w n ≡ true) × (n ≡ 0 → ⊥)
@@ -140,17 +139,18 @@ module _ (n : ℕ) (heard : Bool) (t w : List ℕ) where
 -- any two outcomes of a poll turn are equal
 turn-known : Told → Turned
 turn-known (refuses k) = Refused k
-turn-known (answers []) = Refused 0
-turn-known (answers (d ∷ [])) = Refused 0
-turn-known (answers (d ∷ o ∷ l)) = Turn (eqb d 1) (eqb o 1)
+turn-known (answers no-bytes) = Refused 0
+turn-known (answers (status-byte s)) = Refused 0
+turn-known (answers (assign-bytes z p c v)) = Refused 0
+turn-known (answers (place-at v s)) = Refused 0
+turn-known (answers (login-as n f s)) = Refused 0
+turn-known (answers (turn-was due out)) = Turn due out
+turn-known (answers (frame-of l)) = Refused 0
 
 turn-known-told : (a : Turned) → turn-known (turnTold a) ≡ a
-unfolding turn-known turnTold flag
+unfolding turn-known turnTold
 turn-known-told (Refused k) = refl
-turn-known-told (Turn true true) = refl
-turn-known-told (Turn true false) = refl
-turn-known-told (Turn false true) = refl
-turn-known-told (Turn false false) = refl
+turn-known-told (Turn due out) = refl
 
 pub turn-told-one : (a b : Turned) → turnTold a ≡ turnTold b → a ≡ b
 turn-told-one a b e = sym (turn-known-told a) ∙ ap turn-known e ∙ turn-known-told b

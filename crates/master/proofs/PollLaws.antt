@@ -17,7 +17,8 @@ use Rattle.master.specs.declared.Turned.the-variants.{Refused}
 use Rattle.master.specs.Tables.{goodTables}
 use Rattle.master.specs.Refusals.{ANYBODY, unknown}
 use Rattle.master.proofs.Deeds.{records-good}
-use Rattle.master.specs.Polls.{turnTold, stationAt, dueAt, pollRefusal, pollTold, pollLocks, pollRecords, Polls}
+use Rattle.master.specs.Polls.{stationAt, dueAt, pollRefusal, pollTold, pollLocks, pollRecords, Polls}
+use Rattle.master.specs.Answers.{turnTold}
 
 module _ (n : ℕ) (heard : Bool) (t w : List ℕ) where
   -- a refused turn, by its number

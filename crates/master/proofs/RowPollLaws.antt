@@ -24,8 +24,9 @@ use Rattle.locks.proofs.GoodLaws.{sound-same}
 use Rattle.master.specs.declared.Step.{Step}
 use Rattle.master.specs.declared.Turned.the-variants.{Refused, Turn as Turned′}
 use Rattle.master.specs.Refusals.{ANYBODY}
-use Rattle.master.specs.Polls.{turnTold, withCounts, afterTurn}
+use Rattle.master.specs.Polls.{withCounts, afterTurn}
 use Rattle.master.specs.RowPolls.{early, rowRefusal, turned, stepTold, stepLocks, rowAfter, RowPolls, wordRefusal, stepRefusal, Steps}
+use Rattle.master.specs.Answers.{turnTold}
 
 -- three tests in front of a last number
 module _ (a b c : Bool) where

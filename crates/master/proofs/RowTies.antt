@@ -26,10 +26,10 @@ use Rattle.locks.proofs.GoodLaws.{sound-same}
 use Rattle.master.specs.declared.PolledRow.{PolledRow}
 use Rattle.master.specs.declared.Turned.{Turned}
 use Rattle.master.specs.declared.Turned.the-variants.{Refused, Turn}
-use Rattle.master.specs.Answers.{Told, refuses, answers}
+use Rattle.master.specs.Answers.{Told, refuses, answers, turnTold}
 use Rattle.master.specs.Tables.{goodTables}
 use Rattle.master.specs.Refusals.{unknown}
-use Rattle.master.specs.Polls.{turnTold, stationAt, dueAt, outAt, withCounts, afterTurn, pollRefusal, turnLocks, turnRecords, pollTold, pollLocks, pollRecords, Polls}
+use Rattle.master.specs.Polls.{stationAt, dueAt, outAt, withCounts, afterTurn, pollRefusal, turnLocks, turnRecords, pollTold, pollLocks, pollRecords, Polls}
 use Rattle.master.specs.RowPolls.{early, rowRefusal, turned, stepTold, stepLocks, rowAfter, RowPolls, isTurn, writtenBack}
 use Rattle.master.proofs.PollLaws.{polls-refused, poll-bad-tables}
 use Rattle.master.proofs.PollKeeps.{seated, turn-told-one}

@@ -1,8 +1,8 @@
 -- What each frame does: its answer, and the tables it leaves. n is the number polled, q the request, s the site file.
 use Prim.Native.Nat.{ℕ}
 use mathlib.Core.Path.{_≡_}
-use mathlib.Core.Bool.{Bool, cond, _&&_, _||_}
-use mathlib.Core.List.{List, [], _∷_}
+use mathlib.Core.Bool.{Bool, false, cond, _&&_, _||_}
+use mathlib.Core.List.{List}
 use lib.Dec.{eqb, ltb}
 use Rattle.rows.specs.Words.{same, zeros}
 use Rattle.rows.specs.Numbers.{lowFirst}
@@ -15,17 +15,16 @@ use Rattle.site.specs.declared.Placed.{Placed}
 use Rattle.site.specs.Layout.{partitions, partitionRow, partitionPassword}
 use Rattle.site.specs.Found.{hasUser, indexOfName}
 use Rattle.site.specs.Places.{placedIn}
-use Rattle.who.specs.Records.{flag}
 use Rattle.who.specs.Good.{numbers}
 use Rattle.who.specs.Logins.{lowestFree, loggedInAs, afterLogin, afterLogout}
 use Rattle.locks.specs.Table.{lockStatus, lockTable, unlockStatus, unlockTable, clearedTable}
-use Rattle.master.specs.Answers.{Told, refuses, answers, told}
+use Rattle.master.specs.Answers.{Told, refuses, answers, told, no-bytes, status-byte, assign-bytes, place-at, login-as}
 use Rattle.master.specs.declared.Answer.{Answer}
 use Rattle.master.specs.Refusals.{refusal}
 
 -- read, write: the place. Its refusals 8 and 9 stand among the tests of a frame
 unfoldable pub placeTold : Placed → Told
-placeTold p = cond (eqb (p .refusal) 0) (answers (p .place .volume .0 ∷ p .place .sector ∷ [])) (refuses (p .refusal))
+placeTold p = cond (eqb (p .refusal) 0) (answers (place-at (p .place .volume .0) (p .place .sector))) (refuses (p .refusal))
 
 -- login: the lowest free number from 1 to 63, name found, and the serial as sent; number 0 and no where all 63 are in use
 unfoldable pub hasFree : List ℕ → Bool
@@ -37,8 +36,8 @@ nameFound q s = hasUser s (q .name) (q .password)
 unfoldable pub loginAnswer : Request → List ℕ → List ℕ → Told
 loginAnswer q s w =
     cond (hasFree w)
-    (answers (lowestFree w ∷ flag (nameFound q s) ∷ lowFirst (q .serial) ∷ []))
-    (answers (0 ∷ 0 ∷ lowFirst (q .serial) ∷ []))
+    (answers (login-as (lowestFree w) (nameFound q s) (lowFirst (q .serial))))
+    (answers (login-as 0 false (lowFirst (q .serial))))
 
 unfoldable pub loginRecords : Request → ℕ → List ℕ → List ℕ → List ℕ
 loginRecords q product s w =
@@ -46,7 +45,7 @@ loginRecords q product s w =
 
 -- assign: the row with that name, if its password is equal or the sent password is six zeros; otherwise FF 00 00 00
 unfoldable pub rowAnswer : PartitionRow → Told
-rowAnswer r = answers (r .size ∷ r .partition .0 ∷ r .control ∷ r .volume .0 ∷ [])
+rowAnswer r = answers (assign-bytes (r .size) (r .partition .0) (r .control) (r .volume .0))
 
 unfoldable pub assignable : Request → List ℕ → Bool
 assignable q s =
@@ -57,19 +56,19 @@ unfoldable pub assignAnswer : Request → List ℕ → Told
 assignAnswer q s =
     cond (assignable q s)
     (rowAnswer (partitionRow s (indexOfName s (q .name))))
-    (answers (0xFF ∷ 0 ∷ 0 ∷ 0 ∷ []))
+    (answers (assign-bytes 0xFF 0 0 0))
 
 -- what each command c is answered
 unfoldable pub answerTo : Command → Request → ℕ → List ℕ → List ℕ → List ℕ → Told
-answerTo Acknowledge q n s t w = answers []
+answerTo Acknowledge q n s t w = answers no-bytes
 answerTo (Read src a) q n s t w = placeTold (placedIn s a)
 answerTo (Write src a) q n s t w = placeTold (placedIn s a)
 answerTo (Login product) q n s t w = loginAnswer q s w
 answerTo Assign q n s t w = assignAnswer q s
-answerTo Lock q n s t w = answers (lockStatus t n (q .string) ∷ [])
-answerTo Unlock q n s t w = answers (unlockStatus t n (q .string) ∷ [])
-answerTo Clear q n s t w = answers (0x00 ∷ [])
-answerTo (Logout src) q n s t w = answers []
+answerTo Lock q n s t w = answers (status-byte (lockStatus t n (q .string)))
+answerTo Unlock q n s t w = answers (status-byte (unlockStatus t n (q .string)))
+answerTo Clear q n s t w = answers (status-byte 0x00)
+answerTo (Logout src) q n s t w = answers no-bytes
 
 -- the lock table it leaves
 unfoldable pub locksBy : Command → Request → ℕ → List ℕ → List ℕ

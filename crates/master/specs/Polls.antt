@@ -2,24 +2,18 @@
 use Prim.Native.Nat.{ℕ}
 use mathlib.Core.Path.{_≡_}
 use mathlib.Core.Bool.{Bool, cond, not, _&&_, _||_}
-use mathlib.Core.List.{List, [], _∷_}
+use mathlib.Core.List.{List}
 use lib.Dec.{eqb}
 use Rattle.rows.specs.Rows.{row, setRow}
 use Rattle.who.specs.declared.Station.{Station}
-use Rattle.who.specs.Records.{flag, bytesOf, stationOf}
+use Rattle.who.specs.Records.{bytesOf, stationOf}
 use Rattle.who.specs.Logins.{afterLogout}
 use Rattle.who.specs.Turns.{isDue, missesAfter, slowAfter, isOut}
 use Rattle.locks.specs.Table.{clearedTable}
 use Rattle.master.specs.declared.Turned.{Turned}
-use Rattle.master.specs.declared.Turned.the-variants.{Refused, Turn}
 use Rattle.master.specs.Tables.{goodTables}
-use Rattle.master.specs.Answers.{Told, refuses, answers}
+use Rattle.master.specs.Answers.{Told, refuses, answers, turn-was, turnTold}
 use Rattle.master.specs.Refusals.{ANYBODY, unknown}
-
--- what the answer to a turn tells: was it due, did it end in a logout
-unfoldable pub turnTold : Turned → Told
-turnTold (Refused k) = refuses k
-turnTold (Turn due out) = answers (flag due ∷ flag out ∷ [])
 
 -- the station polled
 unfoldable pub stationAt : List ℕ → ℕ → Station
@@ -65,7 +59,7 @@ turnRecords n heard w = cond (outAt w n heard) (afterLogout w n) (setRow 18 w n 
 unfoldable pub pollTold : ℕ → Bool → List ℕ → List ℕ → Told
 pollTold n heard t w =
     cond (eqb (pollRefusal n heard t w) 0)
-    (answers (flag (dueAt w n) ∷ flag (outAt w n heard) ∷ []))
+    (answers (turn-was (dueAt w n) (outAt w n heard)))
     (refuses (pollRefusal n heard t w))
 
 unfoldable pub pollLocks : ℕ → Bool → List ℕ → List ℕ → List ℕ

@@ -2,13 +2,13 @@
 use Prim.Native.Nat.{ℕ}
 use mathlib.Core.Path.{_≡_}
 use mathlib.Core.Bool.{Bool, true, false, cond, not, _&&_, _||_}
-use mathlib.Core.List.{List, [], _∷_}
+use mathlib.Core.List.{List}
 use lib.Dec.{eqb}
 use lib.ListN.{set}
 use Rattle.rows.specs.Numbers.{bitAt}
 use Rattle.rows.specs.Rows.{setRow}
 use Rattle.who.specs.declared.Station.{Station}
-use Rattle.who.specs.Records.{flag, bytesOf}
+use Rattle.who.specs.Records.{bytesOf}
 use Rattle.who.specs.Row.{vacant, stationIn, isIn, goodRow}
 use Rattle.who.specs.Turns.{isDue, isOut}
 use Rattle.locks.specs.Good.{locks, soundRows, goodLocks}
@@ -17,8 +17,8 @@ use Rattle.master.specs.declared.Step.{Step}
 use Rattle.master.specs.declared.PolledRow.{PolledRow}
 use Rattle.master.specs.declared.Turned.{Turned}
 use Rattle.master.specs.declared.Turned.the-variants.{Refused, Turn}
-use Rattle.master.specs.Answers.{Told, refuses, answers}
-use Rattle.master.specs.Polls.{turnTold, afterTurn}
+use Rattle.master.specs.Answers.{Told, refuses, answers, turn-was, turnTold}
+use Rattle.master.specs.Polls.{afterTurn}
 use Rattle.master.specs.Refusals.{ANYBODY}
 
 -- 12 heard in a turn that wasn't due
@@ -41,7 +41,7 @@ turned s heard = cond (isOut (s .misses) (s .slow) heard) vacant (afterTurn s he
 unfoldable pub stepTold : ℕ → Station → Bool → Told
 stepTold k s heard =
     cond (eqb k 0)
-    (answers (flag (isDue (s .misses) (s .slow)) ∷ flag (isOut (s .misses) (s .slow) heard) ∷ []))
+    (answers (turn-was (isDue (s .misses) (s .slow)) (isOut (s .misses) (s .slow) heard)))
     (refuses k)
 
 unfoldable pub stepLocks : ℕ → ℕ → Station → Bool → List ℕ → List ℕ

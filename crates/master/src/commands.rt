@@ -8,7 +8,6 @@ use terms::Volume;
 use who::Station;
 ghost use mathlib.Core.Path.{_≡_};
 ghost use mathlib.Core.Bool.{true, false, _||_};
-ghost use mathlib.Core.List.{[], _∷_};
 ghost use Prim.Native.Nat.{_<_};
 ghost use lib.Dec.{eqb};
 ghost use Rattle.frames.specs.Table.{LOGIN};
@@ -19,7 +18,7 @@ ghost use Rattle.site.specs.Rules.{goodSite};
 ghost use Rattle.site.specs.Places.{placedIn};
 ghost use Rattle.who.specs.Good.{goodRecords, numbers};
 ghost use Rattle.master.specs.Tables.{goodTables};
-ghost use Rattle.master.specs.Answers.{answers, told};
+ghost use Rattle.master.specs.Answers.{answers, told, assign-bytes};
 ghost use Rattle.master.specs.Frames.{placeTold, assignAnswer, Logs, LogsOut, Performs};
 
 // Read, write: the place.
@@ -73,7 +72,7 @@ fn log_in(q: Request, product: u8, site: &[u8], records: &mut [u8]) -> Answer
 
 // FF 00 00 00.
 fn denied() -> Answer
-    ensures { λ r. ⌜ told r ≡ answers (0xFF ∷ 0 ∷ 0 ∷ 0 ∷ []) ⌝ }
+    ensures { λ r. ⌜ told r ≡ answers (assign-bytes 0xFF 0 0 0) ⌝ }
 {
     Answer::Assigned {
         size: 0xFF,

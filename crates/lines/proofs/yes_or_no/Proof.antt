@@ -1,14 +1,13 @@
-use Rattle.who.specs.Records.{flag}
 use Rattle.lines.specs.Line.{yesOrNo}
 use Rattle.lines.proofs.yes_or_no.Statement.{statement}
 use Rattle.lines.proofs.yes_or_no.Tie as tie
 
 returns : tie.Need-returns
-unfolding yesOrNo flag
+unfolding yesOrNo
 returns c = rw (c .if1 .taken)
 
 returns-2 : tie.Need-returns-2
-unfolding yesOrNo flag
+unfolding yesOrNo
 returns-2 c = rw (c .if1 .left)
 
 pub yes-or-no-spec : {M : Type 1} → statement M

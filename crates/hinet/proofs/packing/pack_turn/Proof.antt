@@ -1,5 +1,5 @@
-use Rattle.master.specs.Polls.{turnTold}
-use Rattle.hinet.specs.Packing.{turnWord}
+use Rattle.master.specs.Answers.{turnTold}
+use Rattle.hinet.specs.Packing.{word}
 use Rattle.hinet.proofs.PackLaws.{flag-byte, flag-small}
 use native.Mathlib.Omega.{arith}
 use borrow.Author.Needs.{needs}
@@ -21,11 +21,11 @@ add-result-2 c = let due = c .before .a2 .given .0 .0 in
     omega (arith, flag-byte due, flag-small due, flag-byte out, flag-small out)
 
 returns : tie.Need-returns
-unfolding turnTold turnWord
+unfolding turnTold word
 returns c = rw (c .before .a .given .1)
 
 returns-2 : tie.Need-returns-2
-unfolding turnTold turnWord
+unfolding turnTold word
 returns-2 c = rw (c .before .a2 .given .1, flag-byte (c .before .a2 .given .0 .0), flag-byte (c .before .a2 .given .0 .1 .0))
 
 pub pack-turn-spec : {M : Type 1} → statement M
