@@ -6,7 +6,6 @@ use mathlib.Core.Bool.{Bool, true, false}
 use mathlib.Core.List.{List, [], _∷_}
 use lib.ListN.{getD}
 use Rattle.who.specs.Logins.{loggedIn}
-use Rattle.who.proofs.TurnLaws.{turnsLeft}
 use Rattle.master.proofs.Outcomes.{no-answer}
 use Rattle.master.specs.Answers.{Told, refuses, answers, no-bytes}
 use Rattle.master.specs.Refusals.{ANYBODY}
@@ -15,12 +14,13 @@ use Rattle.station.specs.Replies.{replyRefusal, Replies}
 use Rattle.exchange.specs.Runs.{frame, start, _then_, size, after, tables, answerIn}
 use Rattle.exchange.specs.Following.{Follows, logs-in, others, asks-lock, asks-unlock, asks-clear, sends, hears}
 use Rattle.exchange.specs.Promise.{holds, lists}
+use Rattle.exchange.specs.Silence.{lastTurn}
 use Rattle.exchange.specs.Story.{A, B, site, login, logout, buffer, asked, replied, locksA, locksB, unlocksA, one-locks, one-holds, one-unlocks, one-free, one-locks-B, one-holds-B, one-clears, one-empty, two-locks, two-denied, two-again, two-holds, from, unlock, logins, one-has-it, two-has-it, one-has-none, one-leaves, answersIn, said, silent, Happens}
 use Rattle.master.proofs.Keeps.{logout-out}
 use Rattle.exchange.proofs.OwnFrames.{Leaving, stayed, left, own-logout}
 use Rattle.exchange.proofs.OneNumber.{out-holds}
 use Rattle.exchange.proofs.Invariant.{run-good, invariant}
-use Rattle.exchange.proofs.Silences.{Stands, turnless, no-miss, silent-follows, silent-out}
+use Rattle.exchange.proofs.TurnsLeft.{leftTo, turnless, no-miss, silent-follows, silent-out}
 use Rattle.exchange.proofs.Told.{story-told, story-lists}
 
 -- the answer to event i
@@ -101,20 +101,19 @@ two-stays : Follows 2 one-leaves 1 two-holds
 unfolding one-has-none one-leaves from
 two-stays = others 1 logout site (λ e. omega arith) (others 1 _ site (λ e. omega arith) (others 1 _ site (λ e. omega arith) two-locked))
 
-two-stands : Stands 2 0 0 one-leaves
+two-left : leftTo one-leaves 2 ≡ lastTurn
 unfolding turnless logins one-has-it two-has-it one-has-none one-leaves from
-two-stands = no-miss two-stays refl
+two-left = no-miss two-stays refl
 
 two-out : loggedIn (tables (silent 2 1312 one-leaves) .records) 2 ≡ false
-unfolding turnsLeft
-two-out = silent-out 2 (λ e. omega arith) 1311 two-stands refl
+two-out = silent-out 2 (λ e. omega arith) 1311 one-leaves (invariant 2 two-stays .inside) two-left
 
 -- who lists "A", and who "B"
 listing : (i : ℕ) → getD (lists one-holds A ∷ lists two-denied A ∷ lists one-free A ∷ lists two-holds A ∷ lists one-holds-B B ∷ lists one-empty B ∷ []) i false ≡ getD (true ∷ false ∷ false ∷ true ∷ true ∷ false ∷ []) i false
 listing i = ap (λ (l : List Bool). getD l i false) story-lists
 
 pub happens : Happens
-unfolding turnsLeft holds
+unfolding holds
 happens = record {
   told = story-told;
   one-locked = one-locked;
@@ -129,7 +128,7 @@ happens = record {
   one-cleared = one-cleared;
   one-lists-none = listing 5;
   one-out = one-out;
-  two-silent = silent-follows 2 (λ e. omega arith) 1311 two-stands (omega arith) two-stays;
+  two-silent = silent-follows 2 (λ e. omega arith) 1311 (omega (arith, two-left)) two-stays;
   two-out = two-out;
   two-holds-not = out-holds _ _ (run-good (silent 2 1312 one-leaves)) 2 two-out A;
 }

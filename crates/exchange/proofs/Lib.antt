@@ -9,6 +9,6 @@ pub mod Logins
 pub mod Playing
 pub mod Promised
 pub mod Told
-pub mod Silences
-pub mod SilentTurns
+pub mod TurnsLeft
+pub mod Silenced
 pub mod Happened

@@ -44,7 +44,6 @@ module _ (t w : List ℕ) (good : goodTables t w ≡ true) where
     pub was-out : loggedIn w k ≡ false
     pub is-in : loggedIn w′ k ≡ true
     pub no-misses : stationAt w′ k .misses ≡ 0
-    pub no-slow : stationAt w′ k .slow ≡ 0
     pub same-locks : t′ ≡ t
 
   sized : length w ≡ 18 * numbers
@@ -65,7 +64,6 @@ module _ (t w : List ℕ) (good : goodTables t w ≡ true) where
     was-out = rw (← e) (lowest-free-is w sized free .1);
     is-in = login-in t w good free name serial product found n8 s4 k ∙ rw (eq-eqb k (lowestFree w) (sym e));
     no-misses = rw (← e) (ap (λ (x : Station). x .misses) (entered free name serial product found n8 s4));
-    no-slow = rw (← e) (ap (λ (x : Station). x .slow) (entered free name serial product found n8 s4));
     same-locks = refl;
   }
   enters n k f s a t′ w′ (locked i x b) e nz = absurd (nz (sym e))

@@ -1,13 +1,13 @@
 -- The laws of a poll turn: counts stay in range, and a silent station is out after exactly as many turns as are left to it.
-use Prim.Native.Nat.{ℕ, zero, suc, _+_, _-_, _*_, _%_, _≤_, _<_}
+use Prim.Native.Nat.{ℕ, _+_, _-_, _*_, _%_, _≤_, _<_}
 use native.Mathlib.Omega.{arith}
 use mathlib.Core.Path.{_≡_, refl, sym, _∙_}
 use mathlib.Core.Bool.{Bool, true, false, cond, _||_}
 use lib.Dec.{eqb, leb, ltb, lit≤}
-use borrow.Author.Tests.{eqb-true, eqb-false, eq-eqb, ne-eqb, ltb-true, ltb-false, lt-ltb, le-ltb, leb-true, le-leb, lt-leb}
+use borrow.Author.Tests.{eqb-true, eqb-false, eq-eqb, ne-eqb, ltb-true, ltb-false, lt-ltb, le-ltb, le-leb, lt-leb}
 use Rattle.rows.proofs.BoolLaws.{by-test, by-eq, iff}
 use Rattle.who.specs.Good.{goodCounts}
-use Rattle.who.specs.Turns.{isDue, missesAfter, slowAfter, isOut}
+use Rattle.who.specs.Turns.{isDue, missesAfter, slowAfter, isOut, turnsLeft}
 use Rattle.who.proofs.RecordLaws.{Counts, counts-is, is-counts}
 
 -- the three kinds of turn
@@ -24,10 +24,6 @@ turning m s = by-test (ltb m 160)
     (λ (e : s ≡ 11). late (ltb-false m 160 n) e (rw (n, eq-eqb s 11 e)))
     (λ ne. waiting (ltb-false m 160 n) ne (rw (n, ne-eqb s 11 ne))))
 
--- how many turns are left to a silent station
-unfoldable pub turnsLeft : ℕ → ℕ → ℕ
-turnsLeft m s = cond (ltb m 160) (1312 - m) (12 * (256 - m) - s)
-
 left-early : (m s : ℕ) → m < 160 → turnsLeft m s ≡ 1312 - m
 unfolding turnsLeft
 left-early m s l = rw (lt-ltb m 160 l)
@@ -35,6 +31,10 @@ left-early m s l = rw (lt-ltb m 160 l)
 left-late : (m s : ℕ) → 160 ≤ m → turnsLeft m s ≡ 12 * (256 - m) - s
 unfolding turnsLeft
 left-late m s h = rw (le-ltb m 160 h)
+
+-- due with so many turns left: while they are more than 1,152, and then in each twelfth
+unfoldable pub dueWith : ℕ → Bool
+dueWith left = leb 1153 left || eqb (left % 12) 1
 
 module _ (m s : ℕ) (good : goodCounts m s ≡ true) where
   c : Counts m s
@@ -61,7 +61,7 @@ module _ (m s : ℕ) (good : goodCounts m s ≡ true) where
       go (late l e y) = rw (due-counts false y .0, left-late m s l, e)
           (iff _ _ (λ h. eq-eqb (12 * (256 - m) - 11) 1 (omega (arith, eqb-true (m + 1) 256 h))) (λ h. eq-eqb (m + 1) 256 (omega (arith, c .few, eqb-true (12 * (256 - m) - 11) 1 h))))
 
-  -- a silent turn that does not log it out leaves one turn less, and counts in range
+  -- a silent turn that does not log it out leaves one turn less
   pub silent-left : isOut m s false ≡ false → turnsLeft (missesAfter m s false) (slowAfter m s) + 1 ≡ turnsLeft m s
   unfolding isOut
   silent-left n = go (turning m s)
@@ -76,11 +76,11 @@ module _ (m s : ℕ) (good : goodCounts m s ≡ true) where
       go (waiting l ne h) = rw (not-due false h .0, not-due false h .1, left-late m s l, left-late m (s + 1) l) (omega (arith, c .few, c .short))
       go (late l e y) = rw (due-counts false y .0, due-counts false y .1, left-late m s l, left-late (m + 1) 0 (omega arith), e) (omega (arith, c .few, eqb-false (m + 1) 256 (rw (due-counts false y .0) at n)))
 
-  -- it is due while more than 1,152 turns are left, and then in each twelfth
-  pub due-when : isDue m s ≡ (leb 1153 (turnsLeft m s) || eqb (turnsLeft m s % 12) 1)
+  pub due-when : isDue m s ≡ dueWith (turnsLeft m s)
+  unfolding dueWith
   due-when = go (turning m s)
     where
-      go : Turning m s → isDue m s ≡ (leb 1153 (turnsLeft m s) || eqb (turnsLeft m s % 12) 1)
+      go : Turning m s → isDue m s ≡ dueWith (turnsLeft m s)
       go (early l y) = rw (y, left-early m s l, le-leb 1153 (1312 - m) (omega arith))
       go (waiting l ne n) = rw (n, left-late m s l, lt-leb 1153 (12 * (256 - m) - s) (omega arith))
           (sym (ne-eqb ((12 * (256 - m) - s) % 12) 1 (λ e. omega (arith, c .few, c .short))))
@@ -107,46 +107,3 @@ module _ (m s : ℕ) (good : goodCounts m s ≡ true) where
       go (late l e y) h k = due-good y h k
       go (waiting l ne d) h k = rw (not-due h d .0, not-due h d .1)
           (is-counts m (s + 1) (record { few = c .few; short = omega (arith, c .short); early = λ b. absurd (omega arith) }))
-
--- misses and slow turns after k turns in silence
-unfoldable pub missesThen : ℕ → ℕ → ℕ → ℕ
-missesThen m s zero = m
-missesThen m s (suc k) = missesThen (missesAfter m s false) (slowAfter m s) k
-
-unfoldable pub slowThen : ℕ → ℕ → ℕ → ℕ
-slowThen m s zero = s
-slowThen m s (suc k) = slowThen (missesAfter m s false) (slowAfter m s) k
-
--- a station from these counts on, silent for fewer turns than are left to it, is still in range and has so many turns fewer left
-pub silent-then : (k m s : ℕ) → goodCounts m s ≡ true → k < turnsLeft m s
-    → (goodCounts (missesThen m s k) (slowThen m s k) ≡ true) × (turnsLeft (missesThen m s k) (slowThen m s k) + k ≡ turnsLeft m s)
-unfolding missesThen slowThen
-silent-then zero m s good l = (good, omega arith)
-silent-then (suc k) m s good l =
-    let on : isOut m s false ≡ false = out-last m s good ∙ ne-eqb (turnsLeft m s) 1 (λ e. omega arith) in
-    let less = silent-left m s good on in
-    let then = silent-then k (missesAfter m s false) (slowAfter m s) (turn-good m s good false on) (omega arith) in
-    (then .0, omega (arith, then .1))
-
--- so in its turn k + 1 it is out exactly when that is the last turn left to it, and due as the turns left say
-pub silent-turn : (k m s : ℕ) → goodCounts m s ≡ true → k < turnsLeft m s
-    → (isOut (missesThen m s k) (slowThen m s k) false ≡ eqb (k + 1) (turnsLeft m s))
-    × (isDue (missesThen m s k) (slowThen m s k) ≡ (leb 1153 (turnsLeft m s - k) || eqb ((turnsLeft m s - k) % 12) 1))
-silent-turn k m s good l =
-    let then = silent-then k m s good l in
-    let left : turnsLeft (missesThen m s k) (slowThen m s k) ≡ turnsLeft m s - k = omega (arith, then .1) in (
-      out-last _ _ (then .0) ∙ rw left (iff _ _ (λ h. eq-eqb (k + 1) (turnsLeft m s) (omega (arith, eqb-true (turnsLeft m s - k) 1 h))) (λ h. eq-eqb (turnsLeft m s - k) 1 (omega (arith, eqb-true (k + 1) (turnsLeft m s) h)))),
-      due-when _ _ (then .0) ∙ rw left,
-    )
-
--- a station silent from its login on is polled in turns 1 to 160, then in 172, 184 and so on to 1,312, and is out after 1,312 turns
-pub silent-from-login : (t : ℕ) → 1 ≤ t → t ≤ 1312
-    → (isDue (missesThen 0 0 (t - 1)) (slowThen 0 0 (t - 1)) ≡ (leb t 160 || eqb ((1312 - t) % 12) 0))
-    × (isOut (missesThen 0 0 (t - 1)) (slowThen 0 0 (t - 1)) false ≡ eqb t 1312)
-unfolding turnsLeft goodCounts
-silent-from-login t a b =
-    let turn = silent-turn (t - 1) 0 0 refl (omega arith) in
-    let back : t - 1 + 1 ≡ t = omega arith in
-    let first : leb 1153 (1312 - (t - 1)) ≡ leb t 160 = iff _ _ (λ h. le-leb t 160 (omega (arith, leb-true 1153 (1312 - (t - 1)) h))) (λ h. le-leb 1153 (1312 - (t - 1)) (omega (arith, leb-true t 160 h))) in
-    let then : eqb ((1312 - (t - 1)) % 12) 1 ≡ eqb ((1312 - t) % 12) 0 = iff _ _ (λ h. eq-eqb ((1312 - t) % 12) 0 (omega (arith, eqb-true ((1312 - (t - 1)) % 12) 1 h))) (λ h. eq-eqb ((1312 - (t - 1)) % 12) 1 (omega (arith, eqb-true ((1312 - t) % 12) 0 h))) in
-    (turn .1 ∙ rw (first, then), turn .0 ∙ rw back)

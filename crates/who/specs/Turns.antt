@@ -1,5 +1,5 @@
 -- One poll turn, on plain numbers: is the station due, and what becomes of its misses and slow turns.
-use Prim.Native.Nat.{ℕ, _+_}
+use Prim.Native.Nat.{ℕ, _+_, _-_, _*_}
 use mathlib.Core.Bool.{Bool, cond, _||_}
 use lib.Dec.{eqb, ltb}
 use Rattle.who.specs.declared.Turn.{Turn}
@@ -27,3 +27,8 @@ turnOf misses slow heard = record {
   misses = missesAfter misses slow heard;
   slow = slowAfter misses slow;
 }
+
+-- how many turns are left to a station that stays silent: it is out after 1,312 turns from its login on; with misses below 160 each
+-- turn is one of them, from 160 on each of the misses to 256 takes twelve
+unfoldable pub turnsLeft : ℕ → ℕ → ℕ
+turnsLeft misses slow = cond (ltb misses 160) (1312 - misses) (12 * (256 - misses) - slow)

@@ -1,0 +1,122 @@
+-- How many poll turns are left to a station that stays silent: what logs it in gives it all of them, each of its silent turns takes one,
+-- the last logs it out, and nothing else changes their number.
+use Prim.Native.Nat.{ℕ, zero, suc, _<_}
+use native.Mathlib.Omega.{arith}
+use mathlib.Core.Path.{_≡_, refl, sym, _∙_}
+use mathlib.Core.Bool.{Bool, true, false, true≢false}
+use mathlib.Core.List.{List}
+use lib.Dec.{eqb}
+use borrow.Author.Tests.{eq-eqb, ne-eqb}
+use Rattle.rows.specs.Rows.{row}
+use Rattle.rows.proofs.BoolLaws.{both}
+use Rattle.who.specs.Good.{goodCounts}
+use Rattle.who.specs.Logins.{loggedIn}
+use Rattle.who.specs.Turns.{turnsLeft}
+use Rattle.who.proofs.TurnLaws.{dueWith, out-last, silent-left, due-when}
+use Rattle.master.specs.Refusals.{ANYBODY, unknown}
+use Rattle.master.specs.Answers.{answers, login-as, turn-was}
+use Rattle.master.specs.Polls.{stationAt, dueAt, outAt, withCounts, afterTurn, turnRecords, pollRefusal, pollTold, pollRecords}
+use Rattle.master.proofs.Keeps.{logout-out, RecordCase, same, by-login, by-logout, frame-record}
+use Rattle.master.proofs.PollLaws.{polled-below, polled-counts}
+use Rattle.master.proofs.PollKeeps.{turned-logged, turned-station}
+use Rattle.exchange.specs.Runs.{Event, frame, turn, Run, start, _then_, after, tables, answerIn, turnIn}
+use Rattle.exchange.specs.Following.{Follows, logs-in, others, polled, asks-lock, asks-unlock, asks-clear, sends, hears, sides, logout-refused}
+use Rattle.exchange.specs.Silence.{lastTurn}
+use Rattle.exchange.specs.Story.{silent}
+use Rattle.exchange.proofs.Invariant.{run-good, invariant, begins}
+
+unfoldable pub leftTo : Run → ℕ → ℕ
+leftTo h k = turnsLeft (stationAt (tables h .records) k .misses) (stationAt (tables h .records) k .slow)
+
+-- from its login
+pub begun : (k : ℕ) (h : Run) (f s : List ℕ) (found : Bool) (serial : ℕ) → (k ≡ 0 → ⊥) → answerIn h ANYBODY f s ≡ answers (login-as k found serial)
+    → (loggedIn (tables (h then frame ANYBODY f s) .records) k ≡ true) × (leftTo (h then frame ANYBODY f s) k ≡ lastTurn)
+unfolding leftTo turnsLeft
+begun k h f s found serial nz e = let n = begins k h f s found serial nz e in (n .is-in, rw (n .no-misses))
+
+-- what leaves its record leaves their number
+pub beside : (k : ℕ) (h : Run) (e : Event) → row 18 (tables (h then e) .records) k ≡ row 18 (tables h .records) k → leftTo (h then e) k ≡ leftTo h k
+unfolding leftTo stationAt
+beside k h e kept = rw kept
+
+-- and so does a frame, of its own too, that leaves it in
+framed : (k : ℕ) (h : Run) (n : ℕ) (f site : List ℕ) → loggedIn (tables h .records) k ≡ true → loggedIn (tables (h then frame n f site) .records) k ≡ true
+    → leftTo (h then frame n f site) k ≡ leftTo h k
+unfolding tables after
+framed k h n f site in-then in-now = go (frame-record n f site _ _ (run-good h) k)
+  where
+    go : RecordCase n f site (tables h .locks) (tables h .records) (run-good h) k (tables (h then frame n f site) .records) → leftTo (h then frame n f site) k ≡ leftTo h k
+    go (same e) = beside k h (frame n f site) e
+    go (by-login a z out) = both in-then out
+    go (by-logout z e) = both in-now (rw e (logout-out _ _ (run-good h) n (rw (← z) in-then) k ∙ rw (eq-eqb k n z)))
+
+-- a station that follows the rules has all its turns where there was none
+unfoldable pub turnless : Run → Bool
+turnless start = true
+turnless (h then frame n f s) = turnless h
+turnless (h then turn n heard) = false
+
+pub no-miss : {k at : ℕ} {h : Run} {st : List ℕ} → Follows k h at st → turnless h ≡ true → leftTo h k ≡ lastTurn
+unfolding turnless
+no-miss {k} (logs-in h f s found serial nz e) q = begun k h f s found serial nz e .1
+no-miss {k} (others {h} n f s ne d) q = framed k h n f s (invariant k d .inside) (invariant k (others n f s ne d) .inside) ∙ no-miss d q
+no-miss {k} (polled n heard in-now d) q = absurd (true≢false (sym q))
+no-miss (asks-lock x long r st′ a d) q = no-miss d q
+no-miss (asks-unlock x long r st′ a d) q = no-miss d q
+no-miss (asks-clear r st′ a d) q = no-miss d q
+no-miss {k} (sends {h} b s d) q = framed k h k _ s (invariant k d .inside) (invariant k (sends b s d) .inside) ∙ no-miss d q
+no-miss {k} (hears {h} b s status r st′ e a d) q = framed k h k _ s (invariant k d .inside) (invariant k (hears b s status r st′ e a d) .inside) ∙ no-miss d q
+no-miss {k} (sides {h} f s y d) q = framed k h k f s (invariant k d .inside) (invariant k (sides f s y d) .inside) ∙ no-miss d q
+no-miss {k} (logout-refused {h} f s e in-now d) q = framed k h k f s (invariant k d .inside) in-now ∙ no-miss d q
+
+-- its own turn that is not heard
+module _ (k : ℕ) (nz : k ≡ 0 → ⊥) where
+  module _ (h : Run) (in-now : loggedIn (tables h .records) k ≡ true) where
+    counts : goodCounts (stationAt (tables h .records) k .misses) (stationAt (tables h .records) k .slow) ≡ true
+    counts = polled-counts k _ _ (run-good h) in-now
+
+    out-is : outAt (tables h .records) k false ≡ eqb (leftTo h k) 1
+    unfolding outAt leftTo
+    out-is = out-last _ _ counts
+
+    due-is : dueAt (tables h .records) k ≡ dueWith (leftTo h k)
+    unfolding dueAt leftTo
+    due-is = due-when _ _ counts
+
+    taken : pollRefusal k false (tables h .locks) (tables h .records) ≡ 0
+    unfolding pollRefusal unknown
+    taken = rw (run-good h, in-now, ne-eqb k 0 nz, ne-eqb k ANYBODY (λ (e : k ≡ ANYBODY). omega (arith, polled-below k _ _ (run-good h) in-now)))
+
+    pub turn-tells : turnIn h k false ≡ answers (turn-was (dueWith (leftTo h k)) (eqb (leftTo h k) 1))
+    unfolding turnIn pollTold
+    turn-tells = rw (taken, due-is, out-is)
+
+    turned : tables (h then turn k false) .records ≡ turnRecords k false (tables h .records)
+    unfolding tables after pollRecords
+    turned = rw taken
+
+    -- the last one
+    pub last : leftTo h k ≡ 1 → loggedIn (tables (h then turn k false) .records) k ≡ false
+    unfolding turnRecords
+    last e = rw (turned, out-is, e) (logout-out _ _ (run-good h) k in-now k ∙ rw (eq-eqb k k refl))
+
+    -- one before it: the station is in, with one turn less
+    pub next : 1 < leftTo h k → (loggedIn (tables (h then turn k false) .records) k ≡ true) × (suc (leftTo (h then turn k false) k) ≡ leftTo h k)
+    unfolding turnRecords afterTurn withCounts leftTo outAt
+    next l =
+        let on : outAt (tables h .records) k false ≡ false = out-is ∙ ne-eqb (leftTo h k) 1 (λ e. omega arith) in (
+          rw (turned, on) (turned-logged k false _ _ (run-good h) in-now k ∙ in-now),
+          rw (turned, on, turned-station k false _ _ (run-good h) in-now on) (omega (arith, silent-left _ _ counts on)),
+        )
+
+  -- silent for fewer turns than are left to it, a station goes on following the rules; after the last it is out
+  pub silent-follows : (j : ℕ) {at : ℕ} {h : Run} {st : List ℕ} → j < leftTo h k → Follows k h at st → Follows k (silent k j h) at st
+  unfolding silent
+  silent-follows zero l d = d
+  silent-follows (suc j) {h = h} l d =
+      let n = next h (invariant k d .inside) (omega arith) in silent-follows j (omega (arith, n .1)) (polled k false (n .0) d)
+
+  pub silent-out : (j : ℕ) (h : Run) → loggedIn (tables h .records) k ≡ true → leftTo h k ≡ suc j → loggedIn (tables (silent k (suc j) h) .records) k ≡ false
+  unfolding silent
+  silent-out zero h i e = last h i e
+  silent-out (suc j) h i e = let n = next h i (omega arith) in silent-out j (h then turn k false) (n .0) (omega (arith, n .1))
