@@ -3,8 +3,8 @@ use Prim.Native.Nat.{ℕ}
 use mathlib.Core.Bool.{Bool}
 use mathlib.Core.List.{List, [], _∷_, _++_}
 use Rattle.master.specs.Answers.{Told}
-use Rattle.master.specs.Frames.{frameTold, frameLocks, frameRecords}
-use Rattle.master.specs.Polls.{pollTold, pollLocks, pollRecords}
+use Rattle.master.specs.Frames.{frameEffect}
+use Rattle.master.specs.Polls.{pollEffect}
 
 -- a frame at the number polled, or a poll turn heard or not, and what it must be answered
 pub data Line : Type 0 where
@@ -20,10 +20,12 @@ pub record Example : Type 0 where
 
 unfoldable pub played : List ℕ → List ℕ → List ℕ → List Line → List Told
 played s t w [] = []
-played s t w (frame n f _ ∷ rest) = frameTold n f s t w ∷ played s (frameLocks n f s t w) (frameRecords n f s t w) rest
+played s t w (frame n f _ ∷ rest) =
+    frameEffect n f s t w .tells
+    ∷ played s (frameEffect n f s t w .locks) (frameEffect n f s t w .records) rest
 played s t w (poll n heard _ ∷ rest) =
-    pollTold n heard t w
-    ∷ played s (pollLocks n heard t w) (pollRecords n heard t w) rest
+    pollEffect n heard t w .tells
+    ∷ played s (pollEffect n heard t w .locks) (pollEffect n heard t w .records) rest
 
 unfoldable pub said : List Line → List Told
 said [] = []

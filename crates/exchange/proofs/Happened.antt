@@ -11,7 +11,7 @@ use Rattle.master.specs.Answers.{Told, refuses, answers, no-bytes}
 use Rattle.master.specs.Refusals.{ANYBODY}
 use Rattle.station.specs.Asks.{askRefusal, afterLock, afterUnlock, afterClear, Asks, freshState}
 use Rattle.station.specs.Replies.{replyRefusal, Replies}
-use Rattle.exchange.specs.Runs.{frame, start, _then_, size, after, tables, answerIn}
+use Rattle.exchange.specs.Runs.{frame, start, _then_, size, effect, tables, answerIn}
 use Rattle.exchange.specs.Following.{Follows, logs-in, others, asks-lock, asks-unlock, asks-clear, sends, hears}
 use Rattle.exchange.specs.Promise.{holds, lists}
 use Rattle.exchange.specs.Silence.{lastTurn}
@@ -22,6 +22,7 @@ use Rattle.exchange.proofs.OneNumber.{out-holds}
 use Rattle.exchange.proofs.Invariant.{run-good, invariant}
 use Rattle.exchange.proofs.TurnsLeft.{leftTo, turnless, no-miss, silent-follows, silent-out}
 use Rattle.exchange.proofs.Told.{story-told, story-lists}
+use Rattle.master.specs.Effects.{Effect}
 
 -- the answer to event i
 told : (i : ℕ) → getD (answersIn one-leaves) i (refuses 0) ≡ getD said i (refuses 0)
@@ -69,13 +70,13 @@ unfolding logins one-has-it two-has-it one-has-none one-leaves from answersIn sa
 logout-told = told 12
 
 one-out : loggedIn (tables one-leaves .records) 1 ≡ false
-unfolding tables after one-leaves answerIn logout
+unfolding tables effect one-leaves answerIn logout
 one-out = go (own-logout 1 logout site _ _ refl) logout-told
   where
     in-then : loggedIn (tables one-has-none .records) 1 ≡ true
     in-then = invariant 1 one-cleared .inside
 
-    go : {a : Told} {t w : List ℕ} → Leaving 1 logout site (tables one-has-none .locks) (tables one-has-none .records) a t w → a ≡ answers no-bytes → loggedIn w 1 ≡ false
+    go : {d : Effect (List ℕ)} → Leaving 1 logout site (tables one-has-none .locks) (tables one-has-none .records) d → d .tells ≡ answers no-bytes → loggedIn (d .records) 1 ≡ false
     go (stayed k) e = absurd (no-answer e)
     go left e = logout-out _ _ (run-good one-has-none) 1 in-then 1
 

@@ -14,7 +14,7 @@ use Rattle.locks.specs.Table.{rowCount}
 use Rattle.locks.specs.Holding.{has}
 use Rattle.master.specs.Tables.{goodTables}
 use Rattle.master.proofs.Outcomes.{no-answer}
-use Rattle.master.specs.Answers.{Told, answers, status-byte, login-as}
+use Rattle.master.specs.Answers.{answers, status-byte, login-as}
 use Rattle.master.specs.Refusals.{ANYBODY}
 use Rattle.master.proofs.Deeds.{loginNumber, deed}
 use Rattle.master.proofs.Keeps.{fresh-tables, logout-out, frame-keeps, frame-others-in, frame-others-have}
@@ -24,17 +24,19 @@ use Rattle.station.specs.Asks.{freshState}
 use Rattle.station.specs.Replies.{replyRefusal, Replies}
 use Rattle.station.proofs.ListedLaws.{listed-none}
 use Rattle.station.proofs.Keeps as keeps
-use Rattle.exchange.specs.Runs.{Event, frame, turn, Run, start, _then_, after, tables, answerIn}
+use Rattle.exchange.specs.Runs.{Event, frame, turn, Run, start, _then_, effect, tables, answerIn}
 use Rattle.exchange.specs.Following.{sideFrame, sent, Follows, logs-in, others, polled, asks-lock, asks-unlock, asks-clear, sends, hears, sides, logout-refused}
 use Rattle.exchange.proofs.OwnFrames.{Leaving, stayed, left, own-logout, side-stays}
 use Rattle.exchange.proofs.Settling.{Settles, Exchange, unserved, settles, own-exchange}
 use Rattle.exchange.proofs.Agreement.{agrees-still, same-agrees, lost-agrees}
 use Rattle.exchange.proofs.OneNumber.{table, out-holds, no-mark, Enters, enters, turn-holds}
 use Rattle.exchange.proofs.Steps.{Inv, asks, lock-asked, unlock-asked, clear-asked, reply-taken, reply-inv}
+use Rattle.master.specs.Effects.{Effect}
+use Rattle.master.specs.Fresh.{sized}
 
 -- the tables are good after every run
 pub run-good : (h : Run) → goodTables (tables h .locks) (tables h .records) ≡ true
-unfolding tables after
+unfolding tables effect
 run-good start = fresh-tables
 run-good (h then frame n f s) = frame-keeps n f s (tables h .locks) (tables h .records) (run-good h)
 run-good (h then turn n heard) = poll-keeps n heard (tables h .locks) (tables h .records) (run-good h)
@@ -50,8 +52,8 @@ module _ (k : ℕ) where
 
   -- a login that is answered with k
   pub begins : (h : Run) (f s : List ℕ) (found : Bool) (serial : ℕ) → (k ≡ 0 → ⊥) → answerIn h ANYBODY f s ≡ answers (login-as k found serial) → Enters (tables h .locks) (tables h .records) (run-good h) k (tables (h then frame ANYBODY f s) .locks) (tables (h then frame ANYBODY f s) .records)
-  unfolding answerIn tables after loginNumber
-  begins h f s found serial nz e = enters _ _ (run-good h) ANYBODY k f s _ _ _ (deed ANYBODY f s _ _) (ap loginNumber e) nz
+  unfolding answerIn tables effect loginNumber
+  begins h f s found serial nz e = enters _ _ (run-good h) ANYBODY k f s _ (deed ANYBODY f s _ _) (ap loginNumber e) nz
 
   empty-agrees : (h : Run) (f s : List ℕ) → Enters (tables h .locks) (tables h .records) (run-good h) k (tables (h then frame ANYBODY f s) .locks) (tables (h then frame ANYBODY f s) .records) → At (h then frame ANYBODY f s) freshState
   unfolding codeIn
@@ -62,38 +64,38 @@ module _ (k : ℕ) where
   }
 
   others-on : (h : Run) (st : List ℕ) (n : ℕ) (f s : List ℕ) → (n ≡ k → ⊥) → At h st → At (h then frame n f s) st
-  unfolding tables after
+  unfolding tables effect
   others-on h st n f s ne i =
       let other : k ≡ n → ⊥ = λ e. ne (sym e) in
       goes-on h (frame n f s) st i (frame-others-in n f s _ _ (run-good h) k other (i .inside) .0) (frame-others-have n f s _ _ (run-good h) k other)
 
   polled-on : (h : Run) (st : List ℕ) (n : ℕ) (heard : Bool) → loggedIn (tables (h then turn n heard) .records) k ≡ true → At h st → At (h then turn n heard) st
-  unfolding tables after
+  unfolding tables effect
   polled-on h st n heard in-now i = goes-on h (turn n heard) st i in-now (λ y. by-eq n k
-      (λ e. turn-holds _ _ (run-good h) n heard k _ _ _ (turn-deed n heard _ _) e in-now y)
+      (λ e. turn-holds _ _ (run-good h) n heard k _ (turn-deed n heard _ _) e in-now y)
       (λ ne. poll-others-have n heard _ _ (run-good h) k (λ e. ne (sym e)) y))
 
   sides-on : (h : Run) (st f s : List ℕ) → sideFrame f ≡ true → At h st → At (h then frame k f s) st
-  unfolding tables after
+  unfolding tables effect
   sides-on h st f s y i =
       let stays = side-stays k f s (tables h .locks) (tables h .records) y in
       goes-on h (frame k f s) st i (rw (stays .1) (i .inside)) (λ x. rw (stays .0))
 
   -- a logout that is not refused logs it out
   logout-on : (h : Run) (st f s : List ℕ) → code f ≡ LOGOUT → loggedIn (tables (h then frame k f s) .records) k ≡ true → At h st → At (h then frame k f s) st
-  unfolding tables after
+  unfolding tables effect
   logout-on h st f s e in-now i = goes-on h (frame k f s) st i in-now (go (own-logout k f s _ _ e) in-now)
     where
-      go : {a : Told} {t′ w′ : List ℕ} → Leaving k f s (tables h .locks) (tables h .records) a t′ w′ → loggedIn w′ k ≡ true → (y : LockString) → has t′ k y ≡ has (tables h .locks) k y
+      go : {d : Effect (List ℕ)} → Leaving k f s (tables h .locks) (tables h .records) d → loggedIn (d .records) k ≡ true → (y : LockString) → has (d .locks) k y ≡ has (tables h .locks) k y
       go (stayed _) _ y = refl
       go left in-then y = both in-then (logout-out _ _ (run-good h) k (i .inside) k ∙ rw (eq-eqb k k refl))
 
-  own-table : (h : Run) (st : List ℕ) → At h st → (b s : List ℕ) → Exchange k (tables h .locks) (tables h .records) (waitOf st) (answerIn h k (sent st b) s) (tables (h then frame k (sent st b) s) .locks) (tables (h then frame k (sent st b) s) .records)
-  unfolding answerIn tables after
+  own-table : (h : Run) (st : List ℕ) → At h st → (b s : List ℕ) → Exchange k (tables h .locks) (tables h .records) (waitOf st) (effect (frame k (sent st b) s) (tables h))
+  unfolding effect
   own-table h st i b s = own-exchange _ (table _ _ (run-good h)) k (no-mark _ _ (run-good h) k (i .inside)) s st b (i .state-good)
 
   -- the reply is lost
-  lost : {t w t′ w′ st : List ℕ} {a : Told} → Inv k t w st → Exchange k t w (waitOf st) a t′ w′ → Inv k t′ w′ st
+  lost : {t w st : List ℕ} {d : Effect (List ℕ)} → Inv k t w st → Exchange k t w (waitOf st) d → Inv k (d .locks) (d .records) st
   lost i (unserved j) = i
   lost i (settles b t′ s) = record { inside = i .inside; state-good = i .state-good; agrees = lost-agrees (i .agrees) s }
 
@@ -102,11 +104,12 @@ module _ (k : ℕ) where
     settling : Settles k t t′ v b
     same-records : w′ ≡ w
 
-  answered : {t w v t′ w′ : List ℕ} {a : Told} (b : ℕ) → Exchange k t w v a t′ w′ → a ≡ answers (status-byte b) → Served t w v b t′ w′
+  answered : {t w v : List ℕ} {d : Effect (List ℕ)} (b : ℕ) → Exchange k t w v d → d .tells ≡ answers (status-byte b) → Served t w v b (d .locks) (d .records)
   answered b (unserved j) e = absurd (no-answer e)
   answered b (settles c t′ s) e = let same : c ≡ b = cc in record { settling = subst (Settles k _ t′ _) same s; same-records = refl }
 
   heard : (h : Run) (st : List ℕ) (i : At h st) (b s : List ℕ) (c : ℕ) → answerIn h k (sent st b) s ≡ answers (status-byte c) → Served (tables h .locks) (tables h .records) (waitOf st) c (tables (h then frame k (sent st b) s) .locks) (tables (h then frame k (sent st b) s) .records)
+  unfolding answerIn tables
   heard h st i b s c e = answered c (own-table h st i b s) e
 
   rows-few : (h : Run) → rowCount (tables h .locks) ≤ limit
@@ -122,6 +125,7 @@ module _ (k : ℕ) where
       rw (n .same-records) (subst (Inv k _ _) (sym (a .left ∙ rw z)) (reply-inv k _ _ st i _ c (rows-few (h then frame k (sent st b) s)) (n .settling)))
 
   pub invariant : {h : Run} {at : ℕ} {st : List ℕ} → Follows k h at st → At h st
+  unfolding tables
   invariant (logs-in h f s found serial nz e) = empty-agrees h f s (begins h f s found serial nz e)
   invariant (others {h} {at} {st} n f s ne d) = others-on h st n f s ne (invariant d)
   invariant (polled {h} {at} {st} n heard in-now d) = polled-on h st n heard in-now (invariant d)

@@ -12,19 +12,20 @@ use Rattle.terms.specs.declared.LockString.{LockString}
 use Rattle.who.specs.declared.Station.{Station}
 use Rattle.who.specs.Records.{bytesOf}
 use Rattle.who.specs.Good.{numbers}
-use Rattle.who.specs.Logins.{loggedIn, lowestFree, loggedInAs, afterLogin}
+use Rattle.who.specs.Logins.{loggedIn, loggedInAs, afterLogin}
 use Rattle.who.proofs.RecordLaws.{length-bytesOf, station-back}
-use Rattle.who.proofs.WhoLaws.{good-is, logged-below, lowest-free-is}
+use Rattle.who.proofs.WhoLaws.{good-is, logged-below}
 use Rattle.locks.specs.Good.{locks, goodLocks}
 use Rattle.locks.specs.Holding.{has}
 use Rattle.locks.proofs.GoodLaws as tableLaws
 use Rattle.locks.proofs.HoldingLaws.{held-in}
 use Rattle.master.specs.Tables.{goodTables}
-use Rattle.master.specs.Answers.{Told}
 use Rattle.master.specs.Polls.{stationAt}
 use Rattle.master.proofs.Deeds.{records-good, locks-good, loginNumber, Deed, refused, quiet, logged-in, locked, unlocked, cleared, logged-out}
-use Rattle.master.proofs.Keeps.{login-in, logout-out}
+use Rattle.master.proofs.Keeps.{given-free, login-in, logout-out}
 use Rattle.master.proofs.PollKeeps.{TurnDeed}
+use Rattle.master.specs.Effects.{Effect}
+use Rattle.master.specs.Frames.{numberGiven}
 
 module _ (t w : List ℕ) (good : goodTables t w ≡ true) where
   pub table : tableLaws.Good locks (loggedIn w) t
@@ -49,30 +50,32 @@ module _ (t w : List ℕ) (good : goodTables t w ≡ true) where
   sized : length w ≡ 18 * numbers
   sized = good-is w (records-good t w good) .sized
 
-  entered : lowestFree w < numbers → (name serial : List ℕ) (product : ℕ) (found : Bool) → length name ≡ 8 → length serial ≡ 4
-      → stationAt (afterLogin w (lowestFree w) (loggedInAs name serial product found)) (lowestFree w) ≡ loggedInAs name serial product found
+  entered : (k : ℕ) → k < numbers → (name serial : List ℕ) (product : ℕ) (found : Bool) → length name ≡ 8 → length serial ≡ 4
+      → stationAt (afterLogin w k (loggedInAs name serial product found)) k ≡ loggedInAs name serial product found
   unfolding stationAt afterLogin loggedInAs
-  entered free name serial product found n8 s4 =
+  entered k below name serial product found n8 s4 =
       let s = loggedInAs name serial product found in
-      rw (row-setRow 18 numbers w (omega (arith, sized)) (lowestFree w) free (bytesOf s) (length-bytesOf s n8 s4)) (station-back s n8 s4 (omega arith))
+      rw (row-setRow 18 numbers w (omega (arith, sized)) k below (bytesOf s) (length-bytesOf s n8 s4)) (station-back s n8 s4 (omega arith))
 
-  pub enters : (n k : ℕ) (f s : List ℕ) (a : Told) (t′ w′ : List ℕ) → Deed n f s t w a t′ w′ → loginNumber a ≡ k → (k ≡ 0 → ⊥) → Enters k t′ w′
+  pub enters : (n k : ℕ) (f s : List ℕ) (d : Effect (List ℕ)) → Deed n f s t w d → loginNumber (d .tells) ≡ k → (k ≡ 0 → ⊥) → Enters k (d .locks) (d .records)
   unfolding loginNumber loggedInAs
-  enters n k f s a t′ w′ (refused j ne) e nz = absurd (nz (sym e))
-  enters n k f s a t′ w′ (quiet vs z) e nz = absurd (nz (sym e ∙ z))
-  enters n k f s a t′ w′ (logged-in at free name serial product found n8 s4) e nz = record {
-    was-out = rw (← e) (lowest-free-is w sized free .1);
-    is-in = login-in t w good free name serial product found n8 s4 k ∙ rw (eq-eqb k (lowestFree w) (sym e));
-    no-misses = rw (← e) (ap (λ (x : Station). x .misses) (entered free name serial product found n8 s4));
-    same-locks = refl;
-  }
-  enters n k f s a t′ w′ (locked i x b) e nz = absurd (nz (sym e))
-  enters n k f s a t′ w′ (unlocked i x) e nz = absurd (nz (sym e))
-  enters n k f s a t′ w′ (cleared i) e nz = absurd (nz (sym e))
-  enters n k f s a t′ w′ (logged-out i ne) e nz = absurd (nz (sym e))
+  enters n k f s _ (refused j ne) e nz = absurd (nz (sym e))
+  enters n k f s _ (quiet a z) e nz = absurd (nz (sym e ∙ z))
+  enters n k f s _ (logged-in at given name serial product found n8 s4) e nz =
+      let free = given-free t w good given in
+      record {
+        was-out = rw (← e) (free .out);
+        is-in = login-in t w good _ free name serial product found n8 s4 k ∙ rw (eq-eqb k (numberGiven w) (sym e));
+        no-misses = rw (← e) (ap (λ (x : Station). x .misses) (entered (numberGiven w) (free .below) name serial product found n8 s4));
+        same-locks = refl;
+      }
+  enters n k f s _ (locked i x b) e nz = absurd (nz (sym e))
+  enters n k f s _ (unlocked i x) e nz = absurd (nz (sym e))
+  enters n k f s _ (cleared i) e nz = absurd (nz (sym e))
+  enters n k f s _ (logged-out i ne) e nz = absurd (nz (sym e))
 
   -- a poll turn that leaves k logged in leaves what k holds
-  pub turn-holds : (n : ℕ) (heard : Bool) (k : ℕ) (a : Told) (t′ w′ : List ℕ) → TurnDeed n heard t w a t′ w′ → n ≡ k → loggedIn w′ k ≡ true → (y : LockString) → has t′ k y ≡ has t k y
-  turn-holds n heard k a t′ w′ (TurnDeed.refused j ne) e i y = refl
-  turn-holds n heard k a t′ w′ (TurnDeed.turned i₀ ne on) e i y = refl
-  turn-holds n heard k a t′ w′ (TurnDeed.dropped i₀ ne out) e i y = both i (logout-out t w good n i₀ k ∙ rw (eq-eqb k n (sym e)))
+  pub turn-holds : (n : ℕ) (heard : Bool) (k : ℕ) (d : Effect (List ℕ)) → TurnDeed n heard t w d → n ≡ k → loggedIn (d .records) k ≡ true → (y : LockString) → has (d .locks) k y ≡ has t k y
+  turn-holds n heard k _ (TurnDeed.refused j ne) e i y = refl
+  turn-holds n heard k _ (TurnDeed.turned i₀ ne on) e i y = refl
+  turn-holds n heard k _ (TurnDeed.dropped i₀ ne out) e i y = both i (logout-out t w good n i₀ k ∙ rw (eq-eqb k n (sym e)))

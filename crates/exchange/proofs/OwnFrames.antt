@@ -18,14 +18,16 @@ use Rattle.who.specs.Logins.{loggedIn, afterLogout}
 use Rattle.who.proofs.WhoLaws.{good-is, logged-below}
 use Rattle.locks.specs.Table.{lockStatus, lockTable, unlockStatus, unlockTable, clearedTable}
 use Rattle.master.specs.Tables.{goodTables}
-use Rattle.master.specs.Answers.{Told, refuses, answers, no-bytes, status-byte}
+use Rattle.master.specs.Answers.{refuses, answers, no-bytes, status-byte}
 use Rattle.master.specs.Refusals.{ANYBODY, unknown, misplaced, dtnSet, srcDiffers, placeRefusal, frameTests, frameRefusal, refusal}
-use Rattle.master.specs.Frames.{answerTo, locksBy, recordsBy, frameTold, frameLocks, frameRecords}
 use Rattle.master.proofs.Deeds.{records-good}
 use Rattle.station.specs.State.{waitOf, askedIn}
 use Rattle.station.specs.Good.{goodState}
 use Rattle.station.specs.Asks.{frameAwaited, sendRefusal, sentOf, bufferAfter}
 use Rattle.exchange.specs.Following.{sideFrame, sent}
+use Rattle.master.specs.Effects.{Effect, telling, unless}
+use Rattle.master.specs.Frames.{effectOf, requestEffect, frameEffect}
+use Rattle.master.specs.Fresh.{sized}
 
 -- what `send` leaves is the frame awaited, or nothing where it is refused
 module _ (st b : List ℕ) where
@@ -68,46 +70,44 @@ side-code c y =
     both y (rw (ne-eqb c ACKNOWLEDGE a, ne-eqb c READ r, ne-eqb c WRITE w, ne-eqb c ASSIGN s))
 
 -- at the master: refused, or answered with a status and the lock table t₁
-pub data Serving (t w : List ℕ) (status : ℕ) (t₁ : List ℕ) : Told → List ℕ → List ℕ → Type 0 where
-  refused : (k : ℕ) → Serving t w status t₁ (refuses k) t w
-  served : Serving t w status t₁ (answers (status-byte status)) t₁ w
+pub data Serving (t w : List ℕ) (status : ℕ) (t₁ : List ℕ) : Effect (List ℕ) → Type 0 where
+  refused : (k : ℕ) → Serving t w status t₁ (telling (refuses k) t w)
+  served : Serving t w status t₁ (telling (answers (status-byte status)) t₁ w)
 
 module _ (n : ℕ) (f s t w : List ℕ) where
   -- a command that is answered with a status and changes no record
-  pub record Commands (status : ℕ) (t₁ : List ℕ) : Type 0 where
-    pub answer : answerTo (requestIn f .command) (requestIn f) n s t w ≡ answers (status-byte status)
-    pub locks : locksBy (requestIn f .command) (requestIn f) n t ≡ t₁
-    pub records : recordsBy (requestIn f .command) (requestIn f) n s w ≡ w
+  abbrev pub Commands : ℕ → List ℕ → Type 0
+  Commands status t₁ = requestEffect (requestIn f) n s t w ≡ telling (answers (status-byte status)) t₁ w
 
-  pub serving : {status : ℕ} {t₁ : List ℕ} → Commands status t₁ → Serving t w status t₁ (frameTold n f s t w) (frameLocks n f s t w) (frameRecords n f s t w)
-  unfolding frameTold frameLocks frameRecords
+  pub serving : {status : ℕ} {t₁ : List ℕ} → Commands status t₁ → Serving t w status t₁ (frameEffect n f s t w)
+  unfolding frameEffect unless
   serving c = by-eq (refusal n f s t w) 0
-      (λ e. rw (e, c .answer, c .locks, c .records) served)
+      (λ e. rw (e, c) served)
       (λ ne. rw (ne-eqb (refusal n f s t w) 0 ne) (refused (refusal n f s t w)))
 
-  pub told-status : {status : ℕ} {t₁ : List ℕ} → Commands status t₁ → refusal n f s t w ≡ 0 → frameTold n f s t w ≡ answers (status-byte status)
-  unfolding frameTold
-  told-status c z = rw z (c .answer)
+  pub told-status : {status : ℕ} {t₁ : List ℕ} → Commands status t₁ → refusal n f s t w ≡ 0 → frameEffect n f s t w .tells ≡ answers (status-byte status)
+  unfolding frameEffect unless
+  told-status c z = rw (z, c)
 
   pub own-lock : code f ≡ LOCK → Commands (lockStatus t n (askedIn f)) (lockTable t n (askedIn f))
-  unfolding requestIn stringRequest askedIn stringAt answerTo locksBy recordsBy
-  own-lock e = record { answer = rw e; locks = rw e; records = rw e }
+  unfolding requestIn stringRequest askedIn stringAt requestEffect effectOf
+  own-lock e = rw e
 
   pub own-unlock : code f ≡ UNLOCK → Commands (unlockStatus t n (askedIn f)) (unlockTable t n (askedIn f))
-  unfolding requestIn stringRequest askedIn stringAt answerTo locksBy recordsBy
-  own-unlock e = record { answer = rw e; locks = rw e; records = rw e }
+  unfolding requestIn stringRequest askedIn stringAt requestEffect effectOf
+  own-unlock e = rw e
 
   pub own-clear : code f ≡ CLEAR → Commands 0x00 (clearedTable t n)
-  unfolding requestIn plain answerTo locksBy recordsBy
-  own-clear e = record { answer = rw e; locks = rw e; records = rw e }
+  unfolding requestIn plain requestEffect effectOf
+  own-clear e = rw e
 
   -- a logout is refused, or frees the rows and clears the record
-  pub data Leaving : Told → List ℕ → List ℕ → Type 0 where
-    stayed : (k : ℕ) → Leaving (refuses k) t w
-    left : Leaving (answers no-bytes) (clearedTable t n) (afterLogout w n)
+  pub data Leaving : Effect (List ℕ) → Type 0 where
+    stayed : (k : ℕ) → Leaving (telling (refuses k) t w)
+    left : Leaving (telling (answers no-bytes) (clearedTable t n) (afterLogout w n))
 
-  pub own-logout : code f ≡ LOGOUT → Leaving (frameTold n f s t w) (frameLocks n f s t w) (frameRecords n f s t w)
-  unfolding frameTold frameLocks frameRecords requestIn plain answerTo locksBy recordsBy
+  pub own-logout : code f ≡ LOGOUT → Leaving (frameEffect n f s t w)
+  unfolding frameEffect unless requestIn plain requestEffect effectOf
   own-logout e = by-eq (refusal n f s t w) 0
       (λ z. rw (z, e) left)
       (λ ne. rw (ne-eqb (refusal n f s t w) 0 ne) (stayed _))
@@ -122,24 +122,24 @@ module _ (n : ℕ) (f s t w : List ℕ) where
       rw (good, site, long, e, some, in-now, off, no-address, no-login, no-logout, eq-eqb (frameLength c) (frameLength c) refl)
 
   -- an acknowledge, a read, a write or an assign leaves both tables
-  pub side-stays : sideFrame f ≡ true → (frameLocks n f s t w ≡ t) × (frameRecords n f s t w ≡ w)
-  unfolding sideFrame frameLocks frameRecords requestIn namedIn plain locksBy recordsBy
+  pub side-stays : sideFrame f ≡ true → (frameEffect n f s t w .locks ≡ t) × (frameEffect n f s t w .records ≡ w)
+  unfolding sideFrame frameEffect unless requestIn namedIn plain requestEffect effectOf
   side-stays y = by-eq (refusal n f s t w) 0
       (λ z. rw z (go (side-code (code f) y)))
       (λ ne. rw (ne-eqb (refusal n f s t w) 0 ne) (refl, refl))
     where
-      go : Side (code f) → (locksBy (requestIn f .command) (requestIn f) n t ≡ t) × (recordsBy (requestIn f .command) (requestIn f) n s w ≡ w)
+      go : Side (code f) → (requestEffect (requestIn f) n s t w .locks ≡ t) × (requestEffect (requestIn f) n s t w .records ≡ w)
       go (acknowledge e) = rw e (refl, refl)
       go (read e) = rw e (refl, refl)
       go (write e) = rw e (refl, refl)
       go (assign e) = rw e (refl, refl)
 
 -- an empty frame is refused
-pub data Refused (t w : List ℕ) : Told → List ℕ → List ℕ → Type 0 where
-  refuses-with : (k : ℕ) → Refused t w (refuses k) t w
+pub data Refused (t w : List ℕ) : Effect (List ℕ) → Type 0 where
+  refuses-with : (k : ℕ) → Refused t w (telling (refuses k) t w)
 
-pub empty-refused : (n : ℕ) (s t w : List ℕ) → Refused t w (frameTold n [] s t w) (frameLocks n [] s t w) (frameRecords n [] s t w)
-unfolding frameTold frameLocks frameRecords refusal frameRefusal frameTests
+pub empty-refused : (n : ℕ) (s t w : List ℕ) → Refused t w (frameEffect n [] s t w)
+unfolding frameEffect unless refusal frameRefusal frameTests
 empty-refused n s t w = by-test (goodTables t w)
     (λ g. by-test (goodSite s)
     (λ h. rw (g, h) (refuses-with 1))

@@ -3,6 +3,7 @@ use Prim.Native.Nat.{ℕ}
 use mathlib.Core.Path.{_≡_, refl}
 use mathlib.Core.Bool.{Bool, true, false}
 use mathlib.Core.List.{List}
+use lib.Dec.{eqb}
 use borrow.Author.Tests.{ne-eqb}
 use Rattle.rows.specs.Rows.{copies}
 use Rattle.rows.specs.Numbers.{lowFirst}
@@ -14,17 +15,18 @@ use Rattle.frames.specs.Reading.{requestIn}
 use Rattle.site.specs.declared.Placed.{Placed}
 use Rattle.site.specs.Layout.{partitionRow}
 use Rattle.site.specs.Found.{indexOfName}
-use Rattle.who.specs.Logins.{lowestFree, freshRecords}
+use Rattle.who.specs.Logins.{freshRecords}
 use Rattle.locks.specs.Good.{freshLocks}
 use Rattle.master.specs.declared.Answer.the-variants.{Refused, Nothing, Status, Assigned, At, LoggedIn}
 use Rattle.master.specs.declared.Turned.the-variants.{Turn}
 use Rattle.master.specs.declared.Turned.the-variants as turns
 use Rattle.master.specs.Answers.{Told, told, turnTold}
 use Rattle.master.specs.Refusals.{refusal}
-use Rattle.master.specs.Fresh.{sized, freshTold}
-use Rattle.master.specs.Frames.{placeTold, hasFree, nameFound, loginAnswer, assignable, rowAnswer, assignAnswer, answerTo, frameTold}
-use Rattle.master.specs.Polls.{dueAt, outAt, pollRefusal, pollTold}
-use Rattle.exchange.specs.Runs.{frame, turn, Run, start, _then_, after, tables, Played, fresh, serve, poll-turn}
+use Rattle.master.specs.Fresh.{sized, freshEffect}
+use Rattle.master.specs.Frames.{placeTold, nameFound, assignable, rowAnswer, assignAnswer, numberGiven, loginEffect, effectOf, requestEffect, frameEffect}
+use Rattle.master.specs.Polls.{pollRefusal, dueNow, outNow, stationTurn, pollEffect, stationAt}
+use Rattle.exchange.specs.Runs.{frame, turn, Run, start, _then_, effect, tables, Played, fresh, serve, poll-turn}
+use Rattle.master.specs.Effects.{unless}
 
 -- an answer that tells it
 record Given {A : Type 0} (tell : A → Told) (x : Told) : Type 0 where
@@ -37,11 +39,11 @@ place-given p = by-eq (p .refusal) 0
     (λ e. record { answer = At (p .place); tells = rw e })
     (λ ne. record { answer = Refused (p .refusal); tells = rw (ne-eqb (p .refusal) 0 ne) })
 
-login-given : (q : Request) (s w : List ℕ) → Given told (loginAnswer q s w)
-unfolding loginAnswer told
-login-given q s w = by-test (hasFree w)
-    (λ y. record { answer = LoggedIn (lowestFree w) (nameFound q s) (lowFirst (q .serial)); tells = rw y refl })
-    (λ n. record { answer = LoggedIn 0 false (lowFirst (q .serial)); tells = rw n refl })
+login-given : (q : Request) (product : ℕ) (s t w : List ℕ) → Given told (loginEffect q product s t w .tells)
+unfolding loginEffect told
+login-given q product s t w = by-test (eqb (numberGiven w) 0)
+    (λ y. record { answer = LoggedIn 0 false (lowFirst (q .serial)); tells = rw y refl })
+    (λ m. record { answer = LoggedIn (numberGiven w) (nameFound q s) (lowFirst (q .serial)); tells = rw m refl })
 
 assign-given : (q : Request) (s : List ℕ) → Given told (assignAnswer q s)
 unfolding assignAnswer rowAnswer told
@@ -49,28 +51,30 @@ assign-given q s = by-test (assignable q s)
     (λ y. let r = partitionRow s (indexOfName s (q .name)) in record { answer = Assigned (r .size) (r .partition) (r .control) (r .volume); tells = rw y refl })
     (λ n. record { answer = Assigned 0xFF (record { 0 = 0 }) 0 (record { 0 = 0 }); tells = rw n refl })
 
-command-given : (c : Command) (q : Request) (n : ℕ) (s t w : List ℕ) → Given told (answerTo c q n s t w)
-unfolding answerTo told
+command-given : (c : Command) (q : Request) (n : ℕ) (s t w : List ℕ) → Given told (effectOf c q n s t w .tells)
+unfolding effectOf told
 command-given Acknowledge q n s t w = record { answer = Nothing; tells = refl }
 command-given (Read src a) q n s t w = place-given _
 command-given (Write src a) q n s t w = place-given _
-command-given (Login product) q n s t w = login-given q s w
+command-given (Login product) q n s t w = login-given q product s t w
 command-given Assign q n s t w = assign-given q s
 command-given Lock q n s t w = record { answer = Status _; tells = refl }
 command-given Unlock q n s t w = record { answer = Status _; tells = refl }
 command-given Clear q n s t w = record { answer = Status _; tells = refl }
 command-given (Logout src) q n s t w = record { answer = Nothing; tells = refl }
 
-frame-given : (n : ℕ) (f s t w : List ℕ) → Given told (frameTold n f s t w)
-unfolding frameTold told
+frame-given : (n : ℕ) (f s t w : List ℕ) → Given told (frameEffect n f s t w .tells)
+unfolding frameEffect requestEffect unless told
 frame-given n f s t w = by-eq (refusal n f s t w) 0
     (λ e. rw e (command-given (requestIn f .command) (requestIn f) n s t w))
     (λ ne. record { answer = Refused (refusal n f s t w); tells = rw (ne-eqb (refusal n f s t w) 0 ne) })
 
-turn-given : (n : ℕ) (heard : Bool) (t w : List ℕ) → Given turnTold (pollTold n heard t w)
-unfolding pollTold turnTold
+turn-given : (n : ℕ) (heard : Bool) (t w : List ℕ) → Given turnTold (pollEffect n heard t w .tells)
+unfolding pollEffect unless stationTurn turnTold
 turn-given n heard t w = by-eq (pollRefusal n heard t w) 0
-    (λ e. record { answer = Turn (dueAt w n) (outAt w n heard); tells = rw e refl })
+    (λ e. by-test (outNow (stationAt w n) heard)
+    (λ y. record { answer = Turn (dueNow (stationAt w n)) true; tells = rw (e, y) refl })
+    (λ m. record { answer = Turn (dueNow (stationAt w n)) false; tells = rw (e, m) refl }))
     (λ ne. record { answer = turns.Refused (pollRefusal n heard t w); tells = rw (ne-eqb (pollRefusal n heard t w) 0 ne) })
 
 fresh-sized : sized freshLocks freshRecords ≡ true
@@ -78,7 +82,7 @@ unfolding sized freshLocks freshRecords copies
 fresh-sized = refl
 
 pub playable : (h : Run) → Played h (tables h .locks) (tables h .records)
-unfolding tables after freshTold told
+unfolding tables effect freshEffect unless told
 playable start = fresh freshLocks freshRecords freshLocks freshRecords Nothing fresh-sized (record { answer = rw fresh-sized refl; locks = rw fresh-sized; records = rw fresh-sized })
 playable (h then frame n f s) = let g = frame-given n f s _ _ in serve n f s _ _ (g .answer) (record { answer = g .tells; locks = refl; records = refl }) (playable h)
 playable (h then turn n heard) = let g = turn-given n heard _ _ in poll-turn n heard _ _ (g .answer) (record { answer = g .tells; locks = refl; records = refl }) (playable h)

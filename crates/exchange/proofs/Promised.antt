@@ -13,13 +13,13 @@ use Rattle.locks.proofs.HoldingLaws.{one-holder}
 use Rattle.master.specs.declared.Answer.{Answer}
 use Rattle.master.specs.declared.Turned.{Turned}
 use Rattle.master.specs.Answers.{answers, told, status-byte, turnTold}
-use Rattle.master.specs.Frames.{frameTold, Serves}
-use Rattle.master.specs.Polls.{pollTold, Polls}
+use Rattle.master.specs.Frames.{Serves, frameEffect}
+use Rattle.master.specs.Polls.{Polls, pollEffect}
 use Rattle.station.specs.State.{listOf, waitOf, isListed, codeIn}
 use Rattle.station.specs.Asks.{waits}
 use Rattle.station.specs.Replies.{replyRefusal, Replies}
 use Rattle.station.proofs.Keeps.{reply-wait}
-use Rattle.exchange.specs.Runs.{Run, after, tables, answerIn, turnIn, Played, fresh, serve, poll-turn}
+use Rattle.exchange.specs.Runs.{Run, effect, tables, answerIn, turnIn, Played, fresh, serve, poll-turn}
 use Rattle.exchange.specs.Following.{sent, Follows}
 use Rattle.exchange.specs.Promise.{holds, lists, Promise}
 use Rattle.exchange.proofs.Settling.{own-answer}
@@ -28,6 +28,8 @@ use Rattle.exchange.proofs.Agreement.{agree-same}
 use Rattle.exchange.proofs.OneNumber.{table, no-mark}
 use Rattle.exchange.proofs.Invariant.{run-good, invariant, taken}
 use Rattle.exchange.proofs.Logins.{one-number}
+use Rattle.master.specs.Effects.{unless}
+use Rattle.master.specs.Fresh.{freshEffect}
 
 -- waiting for nothing
 idle-code : (st : List ℕ) → waits st ≡ false → codeIn (waitOf st) ≡ 0
@@ -40,7 +42,7 @@ other-holds {j} {k} {a} {b} {h} {st} {st′} d d′ ne x l = sym (refuted (has (
     ne (one-number d (subst (λ (n : ℕ). Follows n h b st′) (one-holder (table _ _ (run-good h)) k j x p (invariant j d .agrees .in-master x l)) d′))))
 
 answer-comes : {k at : ℕ} {h : Run} {st : List ℕ} → Follows k h at st → waits st ≡ true → (b s : List ℕ) → 15 ≤ length b → goodSite s ≡ true → (status : ℕ) × (answerIn h k (sent st b) s ≡ answers (status-byte status))
-unfolding answerIn
+unfolding answerIn effect
 answer-comes {k} {at} {h} {st} d w b s long site =
     let i = invariant k d in
     own-answer _ (table _ _ (run-good h)) k (no-mark _ _ (run-good h) k (i .inside)) s (run-good h) site (i .inside) st b (i .state-good) w long
@@ -52,19 +54,19 @@ reply-ends st b r st′ a z = (a .answer ∙ z, rw (a .left, z, reply-wait st b 
 
 -- the tables that the entries leave
 by-entries : {h : Run} {t w : List ℕ} → Played h t w → (t ≡ tables h .locks) × (w ≡ tables h .records)
-unfolding tables after
+unfolding tables effect freshEffect unless
 by-entries (fresh t w t′ w′ r ok a) = (a .locks ∙ rw ok, a .records ∙ rw ok)
 by-entries (serve n f s t′ w′ r a d) = let e = by-entries d in (a .locks ∙ rw (e .0, e .1), a .records ∙ rw (e .0, e .1))
 by-entries (poll-turn n heard t′ w′ r a d) = let e = by-entries d in (a .locks ∙ rw (e .0, e .1), a .records ∙ rw (e .0, e .1))
 
 -- and what they answer
 frame-tells : {h : Run} {t w : List ℕ} → Played h t w → (n : ℕ) (f s t′ w′ : List ℕ) (r : Answer) → Serves n f s t w r t′ w′ → told r ≡ answerIn h n f s
-unfolding answerIn
-frame-tells d n f s t′ w′ r a = let e = by-entries d in a .answer ∙ ap₂ (λ (x y : List ℕ). frameTold n f s x y) (e .0) (e .1)
+unfolding answerIn effect
+frame-tells d n f s t′ w′ r a = let e = by-entries d in a .answer ∙ ap₂ (λ (x y : List ℕ). frameEffect n f s x y .tells) (e .0) (e .1)
 
 turn-tells : {h : Run} {t w : List ℕ} → Played h t w → (n : ℕ) (heard : Bool) (t′ w′ : List ℕ) (r : Turned) → Polls n heard t w r t′ w′ → turnTold r ≡ turnIn h n heard
-unfolding turnIn
-turn-tells d n heard t′ w′ r a = let e = by-entries d in a .answer ∙ ap₂ (λ (x y : List ℕ). pollTold n heard x y) (e .0) (e .1)
+unfolding turnIn effect
+turn-tells d n heard t′ w′ r a = let e = by-entries d in a .answer ∙ ap₂ (λ (x y : List ℕ). pollEffect n heard x y .tells) (e .0) (e .1)
 
 pub promise : Promise
 unfolding holds lists

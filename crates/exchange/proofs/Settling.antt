@@ -20,8 +20,7 @@ use Rattle.locks.proofs.GoodLaws as tableLaws
 use Rattle.locks.proofs.HoldingLaws.{has-held, has-same, held-legal, LockCase, illegal, own, other, full, granted, lock-case, has-granted, UnlockCase, unlocked, refused, unlock-case, has-unlocked, unlocked-gone, has-cleared}
 use Rattle.master.specs.Tables.{goodTables}
 use Rattle.master.specs.Refusals.{refusal}
-use Rattle.master.specs.Answers.{Told, refuses, answers, status-byte}
-use Rattle.master.specs.Frames.{frameTold, frameLocks, frameRecords}
+use Rattle.master.specs.Answers.{refuses, answers, status-byte}
 use Rattle.station.specs.State.{waitOf, codeIn, askedIn, nothing}
 use Rattle.station.specs.Good.{goodState}
 use Rattle.station.specs.Asks.{waits, awaited, awaitedClear, frameAwaited}
@@ -31,6 +30,8 @@ use Rattle.station.proofs.WaitLaws
 use Rattle.exchange.specs.Following.{sent}
 use Rattle.exchange.proofs.OwnFrames.{Sending, whole, none, sending, sent-whole, Serving, served, Commands, serving, told-status, own-lock, own-unlock, own-clear, not-refused, Refused, refuses-with, empty-refused}
 use Rattle.exchange.proofs.OwnFrames
+use Rattle.master.specs.Effects.{Effect, telling}
+use Rattle.master.specs.Frames.{frameEffect}
 
 -- what a station waits for: the string asked for; after a clear every string; else nothing
 unfoldable pub pending : List ℕ → LockString → Bool
@@ -134,22 +135,22 @@ clear-settled k t = record {
 }
 
 -- one own exchange: refused and nothing changes, or served and settled
-pub data Exchange (k : ℕ) (t w v : List ℕ) : Told → List ℕ → List ℕ → Type 0 where
-  unserved : (j : ℕ) → Exchange k t w v (refuses j) t w
-  settles : (b : ℕ) (t′ : List ℕ) → Settles k t t′ v b → Exchange k t w v (answers (status-byte b)) t′ w
+pub data Exchange (k : ℕ) (t w v : List ℕ) : Effect (List ℕ) → Type 0 where
+  unserved : (j : ℕ) → Exchange k t w v (telling (refuses j) t w)
+  settles : (b : ℕ) (t′ : List ℕ) → Settles k t t′ v b → Exchange k t w v (telling (answers (status-byte b)) t′ w)
 
-exchanged : {k : ℕ} {t w v : List ℕ} {b : ℕ} {t₁ : List ℕ} {a : Told} {t′ w′ : List ℕ} → Serving t w b t₁ a t′ w′ → Settles k t t₁ v b → Exchange k t w v a t′ w′
+exchanged : {k : ℕ} {t w v : List ℕ} {b : ℕ} {t₁ : List ℕ} {d : Effect (List ℕ)} → Serving t w b t₁ d → Settles k t t₁ v b → Exchange k t w v d
 exchanged (OwnFrames.Serving.refused j) s = unserved j
 exchanged {b = b} {t₁ = t₁} served s = settles b t₁ s
 
 module _ {n : ℕ} (w : List ℕ) {t : List ℕ} (g : tableLaws.Good n (loggedIn w) t) (k : ℕ) (nf : k ≡ 0xFF → ⊥) (s : List ℕ) where
-  abbrev Does : List ℕ → List ℕ → Type 0
-  Does v f = Exchange k t w v (frameTold k f s t w) (frameLocks k f s t w) (frameRecords k f s t w)
+  abbrev Exchanges : List ℕ → List ℕ → Type 0
+  Exchanges v f = Exchange k t w v (frameEffect k f s t w)
 
-  none-sent : (v : List ℕ) → Does v []
+  none-sent : (v : List ℕ) → Exchanges v []
   none-sent v = go (empty-refused k s t w)
     where
-      go : {a : Told} {t′ w′ : List ℕ} → Refused t w a t′ w′ → Exchange k t w v a t′ w′
+      go : {d : Effect (List ℕ)} → Refused t w d → Exchange k t w v d
       go (refuses-with j) = unserved j
 
   -- what the frame awaited does where it is served
@@ -175,15 +176,15 @@ module _ {n : ℕ} (w : List ℕ) {t : List ℕ} (g : tableLaws.Good n (loggedIn
   }
   due clearing = record { status = 0x00; table = clearedTable t k; commands = own-clear k (CLEAR ∷ []) s t w refl; settling = clear-settled k t }
 
-  whole-sent : {v : List ℕ} → WaitCase v → Does v (frameAwaited v)
+  whole-sent : {v : List ℕ} → WaitCase v → Exchanges v (frameAwaited v)
   unfolding frameAwaited codeIn
   whole-sent idle = none-sent nothing
   whole-sent {v} (waiting a) = let d = due a in exchanged (serving k (frameAwaited v) s t w (d .commands)) (d .settling)
 
-  pub own-exchange : (st b : List ℕ) → goodState st ≡ true → Does (waitOf st) (sent st b)
+  pub own-exchange : (st b : List ℕ) → goodState st ≡ true → Exchanges (waitOf st) (sent st b)
   own-exchange st b good = go (sending st b)
     where
-      go : {f : List ℕ} → Sending st b f → Does (waitOf st) f
+      go : {f : List ℕ} → Sending st b f → Exchanges (waitOf st) f
       go whole = whole-sent (state-wait st good)
       go none = none-sent (waitOf st)
 
@@ -194,7 +195,7 @@ module _ {n : ℕ} (w : List ℕ) {t : List ℕ} (g : tableLaws.Good n (loggedIn
   waited-refusal good site in-now (unlocking x long) = (omega (arith, long), not-refused k (awaited UNLOCK x) s t w good site in-now UNLOCK refl (rw long) refl refl refl refl)
   waited-refusal good site in-now clearing = (omega arith, not-refused k (CLEAR ∷ []) s t w good site in-now CLEAR refl refl refl refl refl refl)
 
-  pub own-answer : goodTables t w ≡ true → goodSite s ≡ true → loggedIn w k ≡ true → (st b : List ℕ) → goodState st ≡ true → waits st ≡ true → 15 ≤ length b → (status : ℕ) × (frameTold k (sent st b) s t w ≡ answers (status-byte status))
+  pub own-answer : goodTables t w ≡ true → goodSite s ≡ true → loggedIn w k ≡ true → (st b : List ℕ) → goodState st ≡ true → waits st ≡ true → 15 ≤ length b → (status : ℕ) × (frameEffect k (sent st b) s t w .tells ≡ answers (status-byte status))
   own-answer good site in-now st b sg waiting-now long =
       let a = state-awaits st sg waiting-now in
       let d = due a in

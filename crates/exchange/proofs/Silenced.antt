@@ -10,7 +10,7 @@ use Rattle.who.specs.Logins.{loggedIn}
 use Rattle.who.proofs.TurnLaws.{dueWith}
 use Rattle.master.proofs.Keeps.{frame-others-in}
 use Rattle.master.proofs.PollKeeps.{poll-others-in}
-use Rattle.exchange.specs.Runs.{frame, turn, Run, _then_, after, tables}
+use Rattle.exchange.specs.Runs.{frame, turn, Run, _then_, effect, tables}
 use Rattle.exchange.specs.Promise.{holds}
 use Rattle.exchange.specs.Silence.{Silent, logs-in, polled, others, others-polled, lastTurn, dueInTurn, Silence}
 use Rattle.exchange.proofs.OneNumber.{out-holds}
@@ -19,7 +19,7 @@ use Rattle.exchange.proofs.TurnsLeft.{leftTo, begun, beside, turn-tells
 
 -- it is in, with all but t of its turns left
 left-of : {k t : ℕ} {h : Run} → Silent k h t → t < lastTurn → (k ≡ 0 → ⊥) × (loggedIn (tables h .records) k ≡ true) × (leftTo h k + t ≡ lastTurn)
-unfolding tables after
+unfolding tables effect
 left-of {k} (logs-in h f s found serial nz e) l = let b = begun k h f s found serial nz e in (nz, b .0, omega (arith, b .1))
 left-of {k} (polled {h} {t} d) l =
     let p = left-of d (omega arith) in

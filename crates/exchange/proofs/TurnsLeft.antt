@@ -3,27 +3,30 @@
 use Prim.Native.Nat.{ℕ, zero, suc, _<_}
 use native.Mathlib.Omega.{arith}
 use mathlib.Core.Path.{_≡_, refl, sym, _∙_}
-use mathlib.Core.Bool.{Bool, true, false, true≢false}
+use mathlib.Core.Bool.{Bool, true, false, true≢false, cond}
 use mathlib.Core.List.{List}
 use lib.Dec.{eqb}
 use borrow.Author.Tests.{eq-eqb, ne-eqb}
-use Rattle.rows.specs.Rows.{row}
-use Rattle.rows.proofs.BoolLaws.{both}
+use Rattle.rows.specs.Rows.{row, setRow}
+use Rattle.rows.proofs.BoolLaws.{both, by-test}
+use Rattle.who.specs.declared.Station.{Station}
 use Rattle.who.specs.Good.{goodCounts}
-use Rattle.who.specs.Logins.{loggedIn}
+use Rattle.who.specs.Logins.{loggedIn, afterLogout}
 use Rattle.who.specs.Turns.{turnsLeft}
 use Rattle.who.proofs.TurnLaws.{dueWith, out-last, silent-left, due-when}
 use Rattle.master.specs.Refusals.{ANYBODY, unknown}
 use Rattle.master.specs.Answers.{answers, login-as, turn-was}
-use Rattle.master.specs.Polls.{stationAt, dueAt, outAt, withCounts, afterTurn, turnRecords, pollRefusal, pollTold, pollRecords}
+use Rattle.master.specs.Polls.{stationAt, withCounts, afterTurn, pollRefusal, turnRefusal, dueNow, outNow, stationTurn, pollEffect}
 use Rattle.master.proofs.Keeps.{logout-out, RecordCase, same, by-login, by-logout, frame-record}
 use Rattle.master.proofs.PollLaws.{polled-below, polled-counts}
-use Rattle.master.proofs.PollKeeps.{turned-logged, turned-station}
-use Rattle.exchange.specs.Runs.{Event, frame, turn, Run, start, _then_, after, tables, answerIn, turnIn}
+use Rattle.master.proofs.PollKeeps.{vacant-bytes, turned-logged, turned-station}
+use Rattle.exchange.specs.Runs.{Event, frame, turn, Run, start, _then_, effect, tables, answerIn, turnIn}
 use Rattle.exchange.specs.Following.{Follows, logs-in, others, polled, asks-lock, asks-unlock, asks-clear, sends, hears, sides, logout-refused}
 use Rattle.exchange.specs.Silence.{lastTurn}
 use Rattle.exchange.specs.Story.{silent}
 use Rattle.exchange.proofs.Invariant.{run-good, invariant, begins}
+use Rattle.master.specs.Effects.{unless}
+use Rattle.who.specs.Records.{bytesOf}
 
 unfoldable pub leftTo : Run → ℕ → ℕ
 leftTo h k = turnsLeft (stationAt (tables h .records) k .misses) (stationAt (tables h .records) k .slow)
@@ -42,7 +45,7 @@ beside k h e kept = rw kept
 -- and so does a frame, of its own too, that leaves it in
 framed : (k : ℕ) (h : Run) (n : ℕ) (f site : List ℕ) → loggedIn (tables h .records) k ≡ true → loggedIn (tables (h then frame n f site) .records) k ≡ true
     → leftTo (h then frame n f site) k ≡ leftTo h k
-unfolding tables after
+unfolding tables effect
 framed k h n f site in-then in-now = go (frame-record n f site _ _ (run-good h) k)
   where
     go : RecordCase n f site (tables h .locks) (tables h .records) (run-good h) k (tables (h then frame n f site) .records) → leftTo (h then frame n f site) k ≡ leftTo h k
@@ -75,36 +78,40 @@ module _ (k : ℕ) (nz : k ≡ 0 → ⊥) where
     counts : goodCounts (stationAt (tables h .records) k .misses) (stationAt (tables h .records) k .slow) ≡ true
     counts = polled-counts k _ _ (run-good h) in-now
 
-    out-is : outAt (tables h .records) k false ≡ eqb (leftTo h k) 1
-    unfolding outAt leftTo
+    abbrev now : Station
+    now = stationAt (tables h .records) k
+
+    out-is : outNow now false ≡ eqb (leftTo h k) 1
+    unfolding outNow leftTo
     out-is = out-last _ _ counts
 
-    due-is : dueAt (tables h .records) k ≡ dueWith (leftTo h k)
-    unfolding dueAt leftTo
+    due-is : dueNow now ≡ dueWith (leftTo h k)
+    unfolding dueNow leftTo
     due-is = due-when _ _ counts
 
     taken : pollRefusal k false (tables h .locks) (tables h .records) ≡ 0
-    unfolding pollRefusal unknown
+    unfolding pollRefusal turnRefusal unknown
     taken = rw (run-good h, in-now, ne-eqb k 0 nz, ne-eqb k ANYBODY (λ (e : k ≡ ANYBODY). omega (arith, polled-below k _ _ (run-good h) in-now)))
 
     pub turn-tells : turnIn h k false ≡ answers (turn-was (dueWith (leftTo h k)) (eqb (leftTo h k) 1))
-    unfolding turnIn pollTold
-    turn-tells = rw (taken, due-is, out-is)
+    unfolding turnIn effect pollEffect unless stationTurn
+    turn-tells =
+        let told : turnIn h k false ≡ answers (turn-was (dueNow now) (outNow now false)) = rw (turnIn, taken) (by-test (outNow now false) (λ y. rw y) (λ m. rw m)) in
+        told ∙ rw (due-is, out-is)
 
-    turned : tables (h then turn k false) .records ≡ turnRecords k false (tables h .records)
-    unfolding tables after pollRecords
-    turned = rw taken
+    turned : tables (h then turn k false) .records ≡ cond (outNow now false) (afterLogout (tables h .records) k) (setRow 18 (tables h .records) k (bytesOf (afterTurn now false)))
+    unfolding tables effect pollEffect unless stationTurn afterLogout
+    turned = rw taken (by-test (outNow now false) (λ y. rw (y, vacant-bytes)) (λ m. rw m))
 
     -- the last one
     pub last : leftTo h k ≡ 1 → loggedIn (tables (h then turn k false) .records) k ≡ false
-    unfolding turnRecords
     last e = rw (turned, out-is, e) (logout-out _ _ (run-good h) k in-now k ∙ rw (eq-eqb k k refl))
 
     -- one before it: the station is in, with one turn less
     pub next : 1 < leftTo h k → (loggedIn (tables (h then turn k false) .records) k ≡ true) × (suc (leftTo (h then turn k false) k) ≡ leftTo h k)
-    unfolding turnRecords afterTurn withCounts leftTo outAt
+    unfolding afterTurn withCounts leftTo outNow
     next l =
-        let on : outAt (tables h .records) k false ≡ false = out-is ∙ ne-eqb (leftTo h k) 1 (λ e. omega arith) in (
+        let on : outNow now false ≡ false = out-is ∙ ne-eqb (leftTo h k) 1 (λ e. omega arith) in (
           rw (turned, on) (turned-logged k false _ _ (run-good h) in-now k ∙ in-now),
           rw (turned, on, turned-station k false _ _ (run-good h) in-now on) (omega (arith, silent-left _ _ counts on)),
         )

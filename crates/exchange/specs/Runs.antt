@@ -10,8 +10,9 @@ use Rattle.master.specs.declared.Answer.{Answer}
 use Rattle.master.specs.declared.Turned.{Turned}
 use Rattle.master.specs.Answers.{Told}
 use Rattle.master.specs.Fresh.{sized, Freshens}
-use Rattle.master.specs.Frames.{frameTold, frameLocks, frameRecords, Serves}
-use Rattle.master.specs.Polls.{pollTold, pollLocks, pollRecords, Polls}
+use Rattle.master.specs.Frames.{Serves, frameEffect}
+use Rattle.master.specs.Polls.{Polls, pollEffect}
+use Rattle.master.specs.Effects.{Effect}
 
 -- any bytes as a frame at any number, with any bytes as the site file of that call; a poll turn of any number, heard or not
 pub data Event : Type 0 where
@@ -32,22 +33,22 @@ pub record Tables : Type 0 where
   pub locks : List ℕ
   pub records : List ℕ
 
--- the tables that an event leaves: those of the contracts of `serve` and `poll_turn`
-unfoldable pub after : Event → Tables → Tables
-after (frame n f s) m = record { locks = frameLocks n f s (m .locks) (m .records); records = frameRecords n f s (m .locks) (m .records) }
-after (turn n heard) m = record { locks = pollLocks n heard (m .locks) (m .records); records = pollRecords n heard (m .locks) (m .records) }
+-- what an event does: the effects of the contracts of `serve` and `poll_turn`
+unfoldable pub effect : Event → Tables → Effect (List ℕ)
+effect (frame n f s) m = frameEffect n f s (m .locks) (m .records)
+effect (turn n heard) m = pollEffect n heard (m .locks) (m .records)
 
 -- the tables after a run
 unfoldable pub tables : Run → Tables
 tables start = record { locks = freshLocks; records = freshRecords }
-tables (h then e) = after e (tables h)
+tables (h then e) = record { locks = effect e (tables h) .locks; records = effect e (tables h) .records }
 
 -- what a frame and a poll turn are answered after a run
 unfoldable pub answerIn : Run → ℕ → List ℕ → List ℕ → Told
-answerIn h n f s = frameTold n f s (tables h .locks) (tables h .records)
+answerIn h n f s = effect (frame n f s) (tables h) .tells
 
 unfoldable pub turnIn : Run → ℕ → Bool → Told
-turnIn h n heard = pollTold n heard (tables h .locks) (tables h .records)
+turnIn h n heard = effect (turn n heard) (tables h) .tells
 
 -- the run as the entries play it: `fresh`, and then `serve` or `poll_turn` for each event, each on the tables that the one before left
 pub data Played : Run → List ℕ → List ℕ → Type 0 where

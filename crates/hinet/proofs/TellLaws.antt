@@ -6,7 +6,7 @@ use mathlib.Core.Path.{_≡_}
 use mathlib.Core.Bool.{Bool, true, false, cond, not, _&&_, _||_}
 use mathlib.Core.List.{List, [], _∷_}
 use lib.Dec.{eqb, ltb}
-use lib.ListN.{length, take, drop}
+use lib.ListN.{length, take, drop, getD}
 use lib.Seq.{getD-drop}
 use borrow.Author.Tests.{ltb-true, ne-eqb}
 use Rattle.rows.proofs.BoolLaws.{by-test, by-eq, and-left}
@@ -30,13 +30,14 @@ use Rattle.site.specs.Places.{inside, placeOn, refused, placedOn, placedIn, pla
 use Rattle.site.proofs.RuleLaws.{ranged-is, site-partition}
 use Rattle.site.proofs.PlaceLaws.{place-ends}
 use Rattle.who.specs.Good.{numbers}
-use Rattle.who.specs.Logins.{lowestFree}
+use Rattle.who.specs.Logins.{lowestFree, loggedIn}
 use Rattle.locks.specs.Table.{rowCount, freeAt, isHeld, isOwn, lockStatus, unlocks, unlockStatus}
 use Rattle.master.specs.Refusals.{ANYBODY, unknown, misplaced, dtnSet, srcDiffers, placeRefusal, frameTests, frameRefusal, refusal}
 use Rattle.master.specs.Tables.{goodTables}
-use Rattle.master.specs.Frames.{placeTold, hasFree, loginAnswer, rowAnswer, assignable, assignAnswer, answerTo, frameTold}
-use Rattle.master.specs.Polls.{dueAt, pollRefusal}
+use Rattle.master.specs.Frames.{placeTold, rowAnswer, assignable, assignAnswer, numberGiven, loginEffect, effectOf, requestEffect, frameEffect}
+use Rattle.master.specs.Polls.{pollRefusal, turnRefusal, dueNow, outNow, stationTurn, pollEffect, stationAt}
 use Rattle.hinet.proofs.PackLaws.{Tellable}
+use Rattle.master.specs.Effects.{Effect, unless}
 
 -- what holds of both sides of a choice
 by-cond : {A : Type 0} (P : A → Type 0) (b : Bool) {x y : A} → P x → P y → P (cond b x y)
@@ -46,6 +47,13 @@ by-cond P false p q = q
 pub either : (b : Bool) (k m : ℕ) → k < 256 → m < 256 → cond b k m < 256
 either true k m l h = l
 either false k m l h = h
+
+-- what fits where it is refused by a byte, and fits where it is done
+unless-fits : (k : ℕ) (t w : List ℕ) (done : Effect (List ℕ)) → k < 256 → (k ≡ 0 → Tellable (done .tells)) → Tellable (unless k t w done .tells)
+unfolding unless
+unless-fits k t w done small fits = by-eq k 0
+    (λ z. rw z (fits z))
+    (λ ne. rw (ne-eqb k 0 ne) (omega arith))
 
 -- the number in n bytes
 low-small : (n : ℕ) (l : List ℕ) → Bytes l → lowFirst (take n l) < 256 ^ n
@@ -67,6 +75,11 @@ place-on-fits r a g = by-test (inside r a)
     (λ y. rw y (omega (arith, ranged-is r g .volume, place-ends r a g y .1)))
     (λ n. rw n (omega arith))
 
+-- the number given at login
+given-small : (w : List ℕ) → numberGiven w < 256
+unfolding numberGiven
+given-small w = by-test (ltb (lowestFree w) numbers) (λ y. rw y (omega (arith, ltb-true (lowestFree w) numbers y))) (λ m. rw m (omega arith))
+
 module _ (s : List ℕ) where
   place-fits : goodSite s ≡ true → (a : Address) → Tellable (placeTold (placedIn s a))
   unfolding placedIn placeTold refused
@@ -79,11 +92,11 @@ module _ (s : List ℕ) where
   placed-fits a = by-test (goodSite s) (λ y. rw y (place-fits y a)) (λ n. rw n (omega arith))
 
   -- login and assign
-  login-fits : (q : Request) (w : List ℕ) → lowFirst (q .serial) < 2 ^ 32 → Tellable (loginAnswer q s w)
-  unfolding loginAnswer hasFree
-  login-fits q w small = by-test (hasFree w)
-      (λ y. rw y (omega (arith, ltb-true (lowestFree w) numbers y)))
-      (λ n. rw n (omega arith))
+  login-fits : (q : Request) (product : ℕ) (t w : List ℕ) → lowFirst (q .serial) < 2 ^ 32 → Tellable (loginEffect q product s t w .tells)
+  unfolding loginEffect
+  login-fits q product t w small = by-test (eqb (numberGiven w) 0)
+      (λ y. rw y (omega arith))
+      (λ m. rw m (omega (arith, given-small w)))
 
   control-small : Bytes s → (at : ℕ) → rowAt s at .control < 256
   unfolding rowAt
@@ -125,7 +138,7 @@ module _ (n : ℕ) (f s t w : List ℕ) where
       either (not (goodTables t w)) 11 _ (omega arith)
       (either (not (goodSite s)) 10 _ (omega arith)
       (either (eqb (length f) 0) 1 _ (omega arith)
-      (either (unknown n w) 2 _ (omega arith)
+      (either (unknown (loggedIn w) n) 2 _ (omega arith)
       (either (eqb (frameLength (code f)) 0) 3 _ (omega arith)
       (either (not (eqb (length f) (frameLength (code f)))) 4 _ (omega arith)
       (either (misplaced n (code f)) 5 _ (omega arith)
@@ -138,30 +151,33 @@ module _ (n : ℕ) (f s t w : List ℕ) where
   site-good z = by-test (goodSite s) (λ y. y) (λ m. by-test (goodTables t w) (λ g. absurd (omega (arith, rw (g, m) at z))) (λ g. absurd (omega (arith, rw g at z))))
 
   -- what each command is answered
-  answer-fits : Bytes f → Bytes s → goodSite s ≡ true → Tellable (answerTo (requestIn f .command) (requestIn f) n s t w)
-  unfolding requestIn namedIn loginIn stringRequest plain answerTo
+  answer-fits : Bytes f → Bytes s → goodSite s ≡ true → Tellable (requestEffect (requestIn f) n s t w .tells)
+  unfolding requestIn namedIn loginIn stringRequest plain requestEffect effectOf
   answer-fits frame site good =
-      let P : Request → Type 0 = λ q. Tellable (answerTo (q .command) q n s t w) in
+      let P : Request → Type 0 = λ q. Tellable (requestEffect q n s t w .tells) in
       by-cond P (eqb (code f) READ) (place-fits s good (addressIn f))
       (by-cond P (eqb (code f) WRITE) (place-fits s good (addressIn f))
-      (by-cond P (eqb (code f) LOGIN) (login-fits s (loginIn f) w (part-small f 15 4 frame))
+      (by-cond P (eqb (code f) LOGIN) (login-fits s (loginIn f) (getD f 19 0) t w (part-small f 15 4 frame))
       (by-cond P (eqb (code f) ASSIGN) (assign-fits s good site (namedIn Assign f))
       (by-cond P (eqb (code f) LOCK) (lock-fits t n (stringRequest Lock f .string))
       (by-cond P (eqb (code f) UNLOCK) (unlock-fits t n (stringRequest Unlock f .string))
       (by-cond P (eqb (code f) CLEAR) (omega arith)
       (by-cond P (eqb (code f) LOGOUT) tt tt)))))))
 
-  pub frame-fits : Bytes f → Bytes s → Tellable (frameTold n f s t w)
-  unfolding frameTold
-  frame-fits frame site = by-eq (refusal n f s t w) 0
-      (λ z. rw z (answer-fits frame site (site-good z)))
-      (λ ne. rw (ne-eqb (refusal n f s t w) 0 ne) (omega (arith, refusal-small)))
+  pub frame-fits : Bytes f → Bytes s → Tellable (frameEffect n f s t w .tells)
+  unfolding frameEffect
+  frame-fits frame site = unless-fits (refusal n f s t w) t w _ refusal-small (λ z. answer-fits frame site (site-good z))
 
--- a refused turn
-pub poll-small : (n : ℕ) (h : Bool) (t w : List ℕ) → pollRefusal n h t w < 256
-unfolding pollRefusal
+-- a poll turn
+poll-small : (n : ℕ) (h : Bool) (t w : List ℕ) → pollRefusal n h t w < 256
+unfolding pollRefusal turnRefusal
 poll-small n h t w =
     either (not (goodTables t w)) 11 _ (omega arith)
-    (either (unknown n w) 2 _ (omega arith)
+    (either (unknown (loggedIn w) n) 2 _ (omega arith)
     (either (eqb n 0 || eqb n ANYBODY) 5 _ (omega arith)
-    (either (h && not (dueAt w n)) 12 0 (omega arith) (omega arith))))
+    (either (h && not (dueNow (stationAt w n))) 12 0 (omega arith) (omega arith))))
+
+pub poll-fits : (n : ℕ) (h : Bool) (t w : List ℕ) → Tellable (pollEffect n h t w .tells)
+unfolding pollEffect stationTurn
+poll-fits n h t w = unless-fits (pollRefusal n h t w) t w _ (poll-small n h t w)
+    (λ z. by-test (outNow (stationAt w n) h) (λ y. rw y tt) (λ m. rw m tt))

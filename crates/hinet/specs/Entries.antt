@@ -7,14 +7,12 @@ use mathlib.Core.List.{List}
 use Rattle.terms.specs.declared.Address.{Address}
 use Rattle.site.specs.Rules.{goodSite}
 use Rattle.site.specs.Places.{placedBy}
-use Rattle.who.specs.Logins.{freshRecords}
-use Rattle.locks.specs.Good.{freshLocks}
 use Rattle.master.specs.Tables.{goodTables}
-use Rattle.master.specs.Answers.{Told}
-use Rattle.master.specs.Frames.{placeTold, frameTold, frameLocks, frameRecords}
-use Rattle.master.specs.Fresh.{sized, freshTold}
-use Rattle.master.specs.Polls.{pollTold, pollLocks, pollRecords}
+use Rattle.master.specs.Frames.{placeTold, frameEffect}
 use Rattle.hinet.specs.Packing.{word}
+use Rattle.master.specs.Effects.{Effect}
+use Rattle.master.specs.Fresh.{freshEffect}
+use Rattle.master.specs.Polls.{pollEffect}
 
 -- the checks: 0 or the refusal
 unfoldable pub tablesWord : List ℕ → List ℕ → ℕ
@@ -31,22 +29,22 @@ unfoldable pub placeWord : List ℕ → Address → ℕ
 placeWord s a = word (placeTold (placedBy s a))
 
 -- an entry that is lent both tables: the word of what it tells, and the tables that it leaves
-pub record Tells (told : Told) (t w : List ℕ) (r : ℕ) (t′ w′ : List ℕ) : Type 0 where
-  pub answer : r ≡ word told
-  pub locks : t′ ≡ t
-  pub stations : w′ ≡ w
+pub record Tells (e : Effect (List ℕ)) (r : ℕ) (t′ w′ : List ℕ) : Type 0 where
+  pub answer : r ≡ word (e .tells)
+  pub locks : t′ ≡ e .locks
+  pub stations : w′ ≡ e .records
 
 -- fresh tables
 abbrev pub Freshened : List ℕ → List ℕ → ℕ → List ℕ → List ℕ → Type 0
-Freshened t w = Tells (freshTold t w) (cond (sized t w) freshLocks t) (cond (sized t w) freshRecords w)
+Freshened t w = Tells (freshEffect t w)
 
 -- one frame
 abbrev pub Served : ℕ → List ℕ → List ℕ → List ℕ → List ℕ → ℕ → List ℕ → List ℕ → Type 0
-Served n f s t w = Tells (frameTold n f s t w) (frameLocks n f s t w) (frameRecords n f s t w)
+Served n f s t w = Tells (frameEffect n f s t w)
 
 -- one poll turn; `heard` is 0 for not heard, any other number for heard
 unfoldable pub isHeard : ℕ → Bool
 isHeard n = not (eqb n 0)
 
 abbrev pub Polled : ℕ → ℕ → List ℕ → List ℕ → ℕ → List ℕ → List ℕ → Type 0
-Polled n heard t w = Tells (pollTold n (isHeard heard) t w) (pollLocks n (isHeard heard) t w) (pollRecords n (isHeard heard) t w)
+Polled n heard t w = Tells (pollEffect n (isHeard heard) t w)

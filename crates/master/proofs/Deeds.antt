@@ -1,12 +1,12 @@
 -- What a frame can do to good tables, as one view: a match on it fixes the answer and both tables together.
-use Prim.Native.Nat.{ℕ, _<_}
+use Prim.Native.Nat.{ℕ}
 use native.Mathlib.Omega.{arith}
 use mathlib.Core.Path.{_≡_, refl, sym, _∙_}
 use mathlib.Core.Bool.{Bool, true, false, cond, not, _||_}
 use mathlib.Core.List.{List}
-use lib.Dec.{eqb, ltb}
+use lib.Dec.{eqb}
 use lib.ListN.{length, getD}
-use borrow.Author.Tests.{eqb-true, eq-eqb, ne-eqb, ltb-true, not-false}
+use borrow.Author.Tests.{eqb-true, eq-eqb, ne-eqb, not-false}
 use Rattle.rows.proofs.BoolLaws.{by-test, by-eq, both, and-left, and-right}
 use Rattle.rows.proofs.RowLaws.{length-part}
 use Rattle.rows.specs.Numbers.{lowFirst}
@@ -20,16 +20,17 @@ use Rattle.frames.proofs.TableLaws.{Code, acknowledge, read, write, login, assi
 use Rattle.frames.proofs.ReadLaws.{well-long}
 use Rattle.site.specs.Rules.{goodSite}
 use Rattle.site.specs.declared.Placed.{Placed}
-use Rattle.who.specs.Good.{goodRecords, numbers}
-use Rattle.who.specs.Logins.{loggedIn, lowestFree, loggedInAs, afterLogin, afterLogout}
+use Rattle.who.specs.Good.{goodRecords}
+use Rattle.who.specs.Logins.{loggedIn, loggedInAs, afterLogin, afterLogout}
 use Rattle.who.proofs.WhoLaws.{good-is}
 use Rattle.locks.specs.Good.{goodLocks}
 use Rattle.locks.specs.Table.{lockStatus, lockTable, unlockStatus, unlockTable, clearedTable}
 use Rattle.master.specs.Tables.{goodTables}
 use Rattle.master.specs.Answers.{Told, refuses, answers, Answered, no-bytes, status-byte, assign-bytes, place-at, login-as, turn-was, frame-of}
 use Rattle.master.specs.Refusals.{ANYBODY, misplaced, placeRefusal, frameTests, frameRefusal, refusal}
-use Rattle.master.specs.Frames.{placeTold, hasFree, loginAnswer, loginRecords, rowAnswer, assignable, assignAnswer, answerTo, locksBy, recordsBy, frameTold, frameLocks, frameRecords}
+use Rattle.master.specs.Frames.{placeTold, rowAnswer, assignable, assignAnswer, numberGiven, loginEffect, effectOf, requestEffect, frameEffect}
 use Rattle.master.proofs.RefusalLaws.{Passed, passed, tests-stop, reads-well, seat-in}
+use Rattle.master.specs.Effects.{Effect, telling, unless}
 
 -- good tables, part by part
 pub records-good : (t w : List ℕ) → goodTables t w ≡ true → goodRecords w ≡ true
@@ -53,15 +54,15 @@ loginNumber (answers (frame-of l)) = 0
 
 module _ (n : ℕ) (f s t w : List ℕ) where
   -- refused: nothing changes. Quiet: an answer and no change, and nobody is logged in. The others change a table
-  pub data Deed : Told → List ℕ → List ℕ → Type 0 where
-    refused : (k : ℕ) → (k ≡ 0 → ⊥) → Deed (refuses k) t w
-    quiet : (a : Answered) → loginNumber (answers a) ≡ 0 → Deed (answers a) t w
-    logged-in : n ≡ ANYBODY → lowestFree w < numbers → (name serial : List ℕ) (product : ℕ) (found : Bool) → length name ≡ 8 → length serial ≡ 4
-        → Deed (answers (login-as (lowestFree w) found (lowFirst serial))) t (afterLogin w (lowestFree w) (loggedInAs name serial product found))
-    locked : loggedIn w n ≡ true → (x : LockString) → length (x .bytes) ≡ 13 → Deed (answers (status-byte (lockStatus t n x))) (lockTable t n x) w
-    unlocked : loggedIn w n ≡ true → (x : LockString) → Deed (answers (status-byte (unlockStatus t n x))) (unlockTable t n x) w
-    cleared : loggedIn w n ≡ true → Deed (answers (status-byte 0x00)) (clearedTable t n) w
-    logged-out : loggedIn w n ≡ true → (n ≡ 0 → ⊥) → Deed (answers no-bytes) (clearedTable t n) (afterLogout w n)
+  pub data Deed : Effect (List ℕ) → Type 0 where
+    refused : (k : ℕ) → (k ≡ 0 → ⊥) → Deed (telling (refuses k) t w)
+    quiet : (a : Answered) → loginNumber (answers a) ≡ 0 → Deed (telling (answers a) t w)
+    logged-in : n ≡ ANYBODY → (numberGiven w ≡ 0 → ⊥) → (name serial : List ℕ) (product : ℕ) (found : Bool) → length name ≡ 8 → length serial ≡ 4
+        → Deed (telling (answers (login-as (numberGiven w) found (lowFirst serial))) t (afterLogin w (numberGiven w) (loggedInAs name serial product found)))
+    locked : loggedIn w n ≡ true → (x : LockString) → length (x .bytes) ≡ 13 → Deed (telling (answers (status-byte (lockStatus t n x))) (lockTable t n x) w)
+    unlocked : loggedIn w n ≡ true → (x : LockString) → Deed (telling (answers (status-byte (unlockStatus t n x))) (unlockTable t n x) w)
+    cleared : loggedIn w n ≡ true → Deed (telling (answers (status-byte 0x00)) (clearedTable t n) w)
+    logged-out : loggedIn w n ≡ true → (n ≡ 0 → ⊥) → Deed (telling (answers no-bytes) (clearedTable t n) (afterLogout w n))
 
   -- a frame that is not refused for its tables, its site file or by one of 1 to 7
   record Heard : Type 0 where
@@ -81,16 +82,13 @@ module _ (n : ℕ) (f s t w : List ℕ) where
       past true false x e = absurd (omega arith)
       past false b x e = absurd (omega arith)
 
-  Done : Request → Type 0
-  Done q = Deed (answerTo (q .command) q n s t w) (locksBy (q .command) q n t) (recordsBy (q .command) q n s w)
-
-  place-done : (p : Placed) → Deed (placeTold p) t w
+  place-done : (p : Placed) → Deed (telling (placeTold p) t w)
   unfolding placeTold loginNumber
   place-done p = by-eq (p .refusal) 0
       (λ e. rw e (quiet _ refl))
       (λ ne. rw (ne-eqb (p .refusal) 0 ne) (refused (p .refusal) ne))
 
-  assign-done : (q : Request) → Deed (assignAnswer q s) t w
+  assign-done : (q : Request) → Deed (telling (assignAnswer q s) t w)
   unfolding assignAnswer rowAnswer loginNumber
   assign-done q = by-test (assignable q s) (λ y. rw y (quiet _ refl)) (λ m. rw m (quiet _ refl))
 
@@ -117,14 +115,14 @@ module _ (n : ℕ) (f s t w : List ℕ) where
         second true b q = both refl q
         second false b q = q
 
-    login-done : code f ≡ LOGIN → Deed (loginAnswer (loginIn f) s w) t (loginRecords (loginIn f) (getD f 19 0) s w)
-    unfolding loginAnswer loginRecords hasFree loginIn frameLength lengthIn frameTable loginNumber
-    login-done e = by-test (ltb (lowestFree w) numbers)
-        (λ y. rw y (logged-in (at-anybody e) (ltb-true _ _ y) _ _ _ _ (length-part f 1 8 (omega (arith, long LOGIN e))) (length-part f 15 4 (omega (arith, long LOGIN e)))))
-        (λ m. rw m (quiet _ refl))
+    login-done : code f ≡ LOGIN → Deed (loginEffect (loginIn f) (getD f 19 0) s t w)
+    unfolding loginEffect loginIn frameLength lengthIn frameTable loginNumber
+    login-done e = by-eq (numberGiven w) 0
+        (λ z. rw z (quiet _ refl))
+        (λ ne. rw (ne-eqb (numberGiven w) 0 ne) (logged-in (at-anybody e) ne _ _ _ _ (length-part f 1 8 (omega (arith, long LOGIN e))) (length-part f 15 4 (omega (arith, long LOGIN e)))))
 
-    done : Code (code f) → Done (requestIn f)
-    unfolding Done requestIn stringRequest stringAt namedIn loginIn plain answerTo locksBy recordsBy frameLength lengthIn frameTable loginNumber
+    done : Code (code f) → Deed (requestEffect (requestIn f) n s t w)
+    unfolding requestEffect requestIn stringRequest stringAt namedIn loginIn plain effectOf frameLength lengthIn frameTable loginNumber
     done (acknowledge e) = rw e (quiet no-bytes refl)
     done (read e) = rw e (place-done _)
     done (write e) = rw e (place-done _)
@@ -136,8 +134,8 @@ module _ (n : ℕ) (f s t w : List ℕ) where
     done (logout e) = rw e (logged-out (inside LOGOUT e refl) (not-local e))
 
   -- every frame over good tables is one of these
-  pub deed : Deed (frameTold n f s t w) (frameLocks n f s t w) (frameRecords n f s t w)
-  unfolding frameTold frameLocks frameRecords Done
+  pub deed : Deed (frameEffect n f s t w)
+  unfolding frameEffect unless
   deed = by-eq (refusal n f s t w) 0
       (λ z. rw z (done (heard z) (code-is (code f) (heard z .tests .known))))
       (λ ne. rw (ne-eqb (refusal n f s t w) 0 ne) (refused (refusal n f s t w) ne))

@@ -1,3 +1,4 @@
+pub mod EffectLaws
 pub mod RefusalLaws
 pub mod ServeLaws
 pub mod Outcomes

@@ -3,13 +3,13 @@ use Prim.Native.Nat.{ℕ}
 use native.Mathlib.Omega.{arith}
 use mathlib.Core.Path.{_≡_, refl, sym, ap, _∙_}
 use mathlib.Core.List.{List}
-use borrow.Author.Tests.{ne-eqb}
 use Rattle.master.specs.declared.Answer.{Answer}
 use Rattle.master.specs.declared.Answer.the-variants.{Refused, Nothing, Status, Assigned, At, LoggedIn}
 use Rattle.master.specs.Answers.{Told, refuses, answers, no-bytes, status-byte, assign-bytes, place-at, login-as, turn-was, frame-of, told, Answered}
 use Rattle.master.specs.Refusals.{refusal}
-use Rattle.master.specs.Frames.{frameTold, frameLocks, frameRecords, Serves}
-use Rattle.master.specs.Fresh.{Freshens}
+use Rattle.master.specs.Frames.{Serves, frameEffect}
+use Rattle.master.specs.Effects.{Effect, Does}
+use Rattle.master.proofs.EffectLaws.{does-one, refused-does}
 
 -- a refusal is no answer
 pub no-answer : {k : ℕ} {a : Answered} → refuses k ≡ answers a → ⊥
@@ -39,20 +39,12 @@ known-told (LoggedIn number found serial) = refl
 pub told-one : (a b : Answer) → told a ≡ told b → a ≡ b
 told-one a b e = sym (known-told a) ∙ ap known e ∙ known-told b
 
--- any two outcomes that a contract allows are equal
-pub serves-one : {n : ℕ} {f s t w : List ℕ} {r r′ : Answer} {t₁ t₂ w₁ w₂ : List ℕ} → Serves n f s t w r t₁ w₁ → Serves n f s t w r′ t₂ w₂ → (r ≡ r′) × (t₁ ≡ t₂) × (w₁ ≡ w₂)
-serves-one a b = (told-one _ _ (a .answer ∙ sym (b .answer)), a .locks ∙ sym (b .locks), a .records ∙ sym (b .records))
-
-pub freshens-one : {t w : List ℕ} {r r′ : Answer} {t₁ t₂ w₁ w₂ : List ℕ} → Freshens t w r t₁ w₁ → Freshens t w r′ t₂ w₂ → (r ≡ r′) × (t₁ ≡ t₂) × (w₁ ≡ w₂)
-freshens-one a b = (told-one _ _ (a .answer ∙ sym (b .answer)), a .locks ∙ sym (b .locks), a .records ∙ sym (b .records))
+-- any two outcomes of an entry that answers so are equal
+pub answer-one : {e : Effect (List ℕ)} {r r′ : Answer} {t₁ t₂ w₁ w₂ : List ℕ} → Does e (told r) t₁ w₁ → Does e (told r′) t₂ w₂ → (r ≡ r′) × (t₁ ≡ t₂) × (w₁ ≡ w₂)
+answer-one a b = let one = does-one a b in (told-one _ _ (one .0), one .1, one .2)
 
 -- a refused frame: the tables are what they were, and nothing is answered
 pub refused-untouched : (n : ℕ) (f s t w : List ℕ) (r : Answer) (t′ w′ : List ℕ) → Serves n f s t w r t′ w′ → (refusal n f s t w ≡ 0 → ⊥)
     → (r ≡ Refused (refusal n f s t w)) × (t′ ≡ t) × (w′ ≡ w)
-unfolding frameTold frameLocks frameRecords told
-refused-untouched n f s t w r t′ w′ a ne =
-    let no = ne-eqb (refusal n f s t w) 0 ne in
-    let tells : told r ≡ told (Refused (refusal n f s t w)) = a .answer ∙ rw no in
-    let same-locks : t′ ≡ t = a .locks ∙ rw no in
-    let same-records : w′ ≡ w = a .records ∙ rw no in
-    (told-one _ _ tells, same-locks, same-records)
+unfolding frameEffect told
+refused-untouched n f s t w r t′ w′ a ne = let u = refused-does _ _ _ _ ne a in (told-one r (Refused (refusal n f s t w)) (u .0), u .1, u .2)

@@ -11,7 +11,7 @@ use Rattle.rows.proofs.RowLaws.{length-row, length-part, row-setRow}
 use Rattle.rows.specs.Rows.{row, setRow}
 use Rattle.terms.specs.declared.LockString.{LockString}
 use Rattle.who.specs.declared.Station.{Station}
-use Rattle.who.specs.Records.{bytesOf, stationOf}
+use Rattle.who.specs.Records.{bytesOf, stationOf, flag, nobody}
 use Rattle.who.specs.Good.{goodCounts, numbers}
 use Rattle.who.specs.Logins.{loggedIn, afterLogin, afterLogout}
 use Rattle.who.proofs.RecordLaws.{counts-is, length-bytesOf, station-back}
@@ -25,37 +25,37 @@ use Rattle.master.specs.declared.Turned.{Turned}
 use Rattle.master.specs.declared.Turned.the-variants.{Refused, Turn}
 use Rattle.master.specs.Tables.{goodTables}
 use Rattle.master.specs.Answers.{Told, refuses, answers, no-bytes, status-byte, assign-bytes, place-at, login-as, turn-was, frame-of, turnTold}
-use Rattle.master.specs.Polls.{stationAt, dueAt, outAt, withCounts, afterTurn, turnLocks, turnRecords, pollRefusal, pollTold, pollLocks, pollRecords, Polls}
+use Rattle.master.specs.Polls.{stationAt, withCounts, afterTurn, pollRefusal, dueNow, outNow, stationTurn, pollEffect}
 use Rattle.master.proofs.Deeds.{records-good, locks-good}
 use Rattle.master.proofs.Keeps.{tables-are, logout-out, logout-tables, cleared-others}
-use Rattle.master.proofs.PollLaws.{seatRefusal, seat-refused, seat-in, polled-below, polled-counts}
+use Rattle.master.proofs.PollLaws.{seated, polled-below, polled-counts}
+use Rattle.master.specs.Effects.{Effect, telling, unless, Does}
+use Rattle.master.proofs.EffectLaws.{does-one, refused-does}
+use Rattle.rows.specs.Numbers.{lowBytes}
+use Rattle.who.specs.Row.{vacant}
+
+-- a cleared record in bytes
+pub vacant-bytes : bytesOf vacant ≡ nobody
+unfolding bytesOf lowBytes flag
+vacant-bytes = refl
 
 module _ (n : ℕ) (heard : Bool) (t w : List ℕ) where
   -- refused: nothing changes. Turned: the counts of n change and nothing else. Dropped: n is logged out
-  pub data TurnDeed : Told → List ℕ → List ℕ → Type 0 where
-    refused : (k : ℕ) → (k ≡ 0 → ⊥) → TurnDeed (refuses k) t w
-    turned : loggedIn w n ≡ true → (n ≡ 0 → ⊥) → outAt w n heard ≡ false
-        → TurnDeed (answers (turn-was (dueAt w n) false)) t (setRow 18 w n (bytesOf (afterTurn (stationAt w n) heard)))
-    dropped : loggedIn w n ≡ true → (n ≡ 0 → ⊥) → outAt w n heard ≡ true
-        → TurnDeed (answers (turn-was (dueAt w n) true)) (clearedTable t n) (afterLogout w n)
+  pub data TurnDeed : Effect (List ℕ) → Type 0 where
+    refused : (k : ℕ) → (k ≡ 0 → ⊥) → TurnDeed (telling (refuses k) t w)
+    turned : loggedIn w n ≡ true → (n ≡ 0 → ⊥) → outNow (stationAt w n) heard ≡ false
+        → TurnDeed (telling (answers (turn-was (dueNow (stationAt w n)) false)) t (setRow 18 w n (bytesOf (afterTurn (stationAt w n) heard))))
+    dropped : loggedIn w n ≡ true → (n ≡ 0 → ⊥) → outNow (stationAt w n) heard ≡ true
+        → TurnDeed (telling (answers (turn-was (dueNow (stationAt w n)) true)) (clearedTable t n) (afterLogout w n))
 
-  -- a turn that is not refused is that of a station 1 to 63 that is logged in
-  pub seated : pollRefusal n heard t w ≡ 0 → (loggedIn w n ≡ true) × (n ≡ 0 → ⊥)
-  unfolding pollRefusal
-  seated z = by-test (goodTables t w)
-      (λ y. by-eq (seatRefusal n heard t w) 0
-      (seat-in n heard t w y)
-      (λ ne. absurd (ne (sym (seat-refused n heard t w y ne) ∙ z))))
-      (λ m. let lie : _≡_ {A = ℕ} 11 0 = rw m at z in absurd (omega arith))
-
-  pub turn-deed : TurnDeed (pollTold n heard t w) (pollLocks n heard t w) (pollRecords n heard t w)
-  unfolding pollTold pollLocks pollRecords turnLocks turnRecords
+  pub turn-deed : TurnDeed (pollEffect n heard t w)
+  unfolding pollEffect pollRefusal unless stationTurn afterLogout
   turn-deed = by-eq (pollRefusal n heard t w) 0
       (λ z.
-      let p = seated z in
-      by-test (outAt w n heard)
-      (λ y. rw (z, y) (dropped (p .0) (p .1) y))
-      (λ m. rw (z, m) (turned (p .0) (p .1) m)))
+      let p = seated (goodTables t w) (loggedIn w) n heard (dueNow (stationAt w n)) z in
+      by-test (outNow (stationAt w n) heard)
+      (λ y. rw (z, y, vacant-bytes) (dropped (p .is-in) (p .not-local) y))
+      (λ m. rw (z, m) (turned (p .is-in) (p .not-local) m)))
       (λ ne. rw (ne-eqb (pollRefusal n heard t w) 0 ne) (refused (pollRefusal n heard t w) ne))
 
   module _ (good : goodTables t w ≡ true) where
@@ -92,49 +92,49 @@ module _ (n : ℕ) (heard : Bool) (t w : List ℕ) where
           (λ ne. rw (ne-eqb m n ne))
 
       -- and reads back as that station
-      turned-counts : outAt w n heard ≡ false → goodCounts (after .misses) (after .slow) ≡ true
-      unfolding after afterTurn withCounts outAt
+      turned-counts : outNow (stationAt w n) heard ≡ false → goodCounts (after .misses) (after .slow) ≡ true
+      unfolding after afterTurn withCounts outNow
       turned-counts on = turn-good (stationAt w n .misses) (stationAt w n .slow) (polled-counts n t w good in-now) heard on
 
-      pub turned-station : outAt w n heard ≡ false → stationAt (setRow 18 w n (bytesOf (afterTurn (stationAt w n) heard))) n ≡ afterTurn (stationAt w n) heard
+      pub turned-station : outNow (stationAt w n) heard ≡ false → stationAt (setRow 18 w n (bytesOf (afterTurn (stationAt w n) heard))) n ≡ afterTurn (stationAt w n) heard
       unfolding after stationAt
       turned-station on =
           rw (row-setRow 18 numbers w (omega (arith, sized)) n below (bytesOf after) (length-bytesOf after name-long serial-long))
           (station-back after name-long serial-long (omega (arith, counts-is _ _ (turned-counts on) .few)))
 
-      turned-tables : (n ≡ 0 → ⊥) → outAt w n heard ≡ false → goodTables t (setRow 18 w n (bytesOf (afterTurn (stationAt w n) heard))) ≡ true
+      turned-tables : (n ≡ 0 → ⊥) → outNow (stationAt w n) heard ≡ false → goodTables t (setRow 18 w n (bytesOf (afterTurn (stationAt w n) heard))) ≡ true
       unfolding goodLocks after afterLogin
       turned-tables ne on = tables-are _ _
           (login-good w (records-good t w good) n (omega arith) below after name-long serial-long still-in (turned-counts on))
           (login-keeps locks (loggedIn w) t (locks-good t w good) _ (λ a i. turned-logged a ∙ i))
 
     -- good tables stay good
-    turn-deed-keeps : (a : Told) (t′ w′ : List ℕ) → TurnDeed a t′ w′ → goodTables t′ w′ ≡ true
-    turn-deed-keeps a t′ w′ (refused k ne) = good
-    turn-deed-keeps a t′ w′ (turned i ne on) = turned-tables i ne on
-    turn-deed-keeps a t′ w′ (dropped i ne out) = logout-tables t w good n i ne
+    turn-deed-keeps : (d : Effect (List ℕ)) → TurnDeed d → goodTables (d .locks) (d .records) ≡ true
+    turn-deed-keeps _ (refused k ne) = good
+    turn-deed-keeps _ (turned i ne on) = turned-tables i ne on
+    turn-deed-keeps _ (dropped i ne out) = logout-tables t w good n i ne
 
-    pub poll-keeps : goodTables (pollLocks n heard t w) (pollRecords n heard t w) ≡ true
-    poll-keeps = turn-deed-keeps _ _ _ turn-deed
+    pub poll-keeps : goodTables (pollEffect n heard t w .locks) (pollEffect n heard t w .records) ≡ true
+    poll-keeps = turn-deed-keeps _ turn-deed
 
     -- everybody else stays in, with the same record
-    turn-others-in : (a : Told) (t′ w′ : List ℕ) → TurnDeed a t′ w′ → (m : ℕ) → (m ≡ n → ⊥) → (loggedIn w′ m ≡ loggedIn w m) × (row 18 w′ m ≡ row 18 w m)
+    turn-others-in : (d : Effect (List ℕ)) → TurnDeed d → (m : ℕ) → (m ≡ n → ⊥) → (loggedIn (d .records) m ≡ loggedIn w m) × (row 18 (d .records) m ≡ row 18 w m)
     unfolding after afterLogin
-    turn-others-in a t′ w′ (refused k ne) m nm = (refl, refl)
-    turn-others-in a t′ w′ (turned i ne on) m nm = (turned-logged i m, login-other w sized n (below i) (after i) (name-long i) (serial-long i) m nm)
-    turn-others-in a t′ w′ (dropped i ne out) m nm = (logout-out t w good n i m ∙ rw (ne-eqb m n nm), logout-other w sized n (below i) m nm)
+    turn-others-in _ (refused k ne) m nm = (refl, refl)
+    turn-others-in _ (turned i ne on) m nm = (turned-logged i m, login-other w sized n (below i) (after i) (name-long i) (serial-long i) m nm)
+    turn-others-in _ (dropped i ne out) m nm = (logout-out t w good n i m ∙ rw (ne-eqb m n nm), logout-other w sized n (below i) m nm)
 
-    pub poll-others-in : (m : ℕ) → (m ≡ n → ⊥) → (loggedIn (pollRecords n heard t w) m ≡ loggedIn w m) × (row 18 (pollRecords n heard t w) m ≡ row 18 w m)
-    poll-others-in = turn-others-in _ _ _ turn-deed
+    pub poll-others-in : (m : ℕ) → (m ≡ n → ⊥) → (loggedIn (pollEffect n heard t w .records) m ≡ loggedIn w m) × (row 18 (pollEffect n heard t w .records) m ≡ row 18 w m)
+    poll-others-in = turn-others-in _ turn-deed
 
     -- and holds what it held
-    turn-others-have : (a : Told) (t′ w′ : List ℕ) → TurnDeed a t′ w′ → (m : ℕ) → (m ≡ n → ⊥) → (x : LockString) → has t′ m x ≡ has t m x
-    turn-others-have a t′ w′ (refused k ne) m nm x = refl
-    turn-others-have a t′ w′ (turned i ne on) m nm x = refl
-    turn-others-have a t′ w′ (dropped i ne out) m nm x = cleared-others n [] [] t w good m nm x
+    turn-others-have : (d : Effect (List ℕ)) → TurnDeed d → (m : ℕ) → (m ≡ n → ⊥) → (x : LockString) → has (d .locks) m x ≡ has t m x
+    turn-others-have _ (refused k ne) m nm x = refl
+    turn-others-have _ (turned i ne on) m nm x = refl
+    turn-others-have _ (dropped i ne out) m nm x = cleared-others n [] [] t w good m nm x
 
-    pub poll-others-have : (m : ℕ) → (m ≡ n → ⊥) → (x : LockString) → has (pollLocks n heard t w) m x ≡ has t m x
-    poll-others-have = turn-others-have _ _ _ turn-deed
+    pub poll-others-have : (m : ℕ) → (m ≡ n → ⊥) → (x : LockString) → has (pollEffect n heard t w .locks) m x ≡ has t m x
+    poll-others-have = turn-others-have _ turn-deed
 
 -- any two outcomes of a poll turn are equal
 turn-known : Told → Turned
@@ -155,16 +155,11 @@ turn-known-told (Turn due out) = refl
 pub turn-told-one : (a b : Turned) → turnTold a ≡ turnTold b → a ≡ b
 turn-told-one a b e = sym (turn-known-told a) ∙ ap turn-known e ∙ turn-known-told b
 
-pub polls-one : {n : ℕ} {h : Bool} {t w : List ℕ} {r r′ : Turned} {t₁ t₂ w₁ w₂ : List ℕ} → Polls n h t w r t₁ w₁ → Polls n h t w r′ t₂ w₂ → (r ≡ r′) × (t₁ ≡ t₂) × (w₁ ≡ w₂)
-polls-one a b = (turn-told-one _ _ (a .answer ∙ sym (b .answer)), a .locks ∙ sym (b .locks), a .records ∙ sym (b .records))
+pub polls-one : {A : Type 0} {e : Effect A} {r r′ : Turned} {t₁ t₂ : List ℕ} {w₁ w₂ : A} → Does e (turnTold r) t₁ w₁ → Does e (turnTold r′) t₂ w₂ → (r ≡ r′) × (t₁ ≡ t₂) × (w₁ ≡ w₂)
+polls-one a b = let one = does-one a b in (turn-told-one _ _ (one .0), one .1, one .2)
 
 -- a refused turn: the tables are what they were, and nothing is answered
-pub refused-turn-untouched : (n : ℕ) (h : Bool) (t w : List ℕ) (r : Turned) (t′ w′ : List ℕ) → Polls n h t w r t′ w′ → (pollRefusal n h t w ≡ 0 → ⊥)
-    → (r ≡ Refused (pollRefusal n h t w)) × (t′ ≡ t) × (w′ ≡ w)
-unfolding pollTold pollLocks pollRecords turnTold
-refused-turn-untouched n h t w r t′ w′ a ne =
-    let no = ne-eqb (pollRefusal n h t w) 0 ne in
-    let tells : turnTold r ≡ turnTold (Refused (pollRefusal n h t w)) = a .answer ∙ rw no in
-    let same-locks : t′ ≡ t = a .locks ∙ rw no in
-    let same-records : w′ ≡ w = a .records ∙ rw no in
-    (turn-told-one _ _ tells, same-locks, same-records)
+pub refused-turn-untouched : {A : Type 0} (k : ℕ) (t : List ℕ) (w : A) (done : Effect A) (r : Turned) (t′ : List ℕ) (w′ : A) → Does (unless k t w done) (turnTold r) t′ w′ → (k ≡ 0 → ⊥)
+    → (r ≡ Refused k) × (t′ ≡ t) × (w′ ≡ w)
+unfolding turnTold
+refused-turn-untouched k t w done r t′ w′ a ne = let u = refused-does k t w done ne a in (turn-told-one r (Refused k) (u .0), u .1, u .2)

@@ -55,7 +55,7 @@ module _ (n : ℕ) (f w : List ℕ) where
   -- what the tests of a frame that none of 1 to 7 refuses say
   pub record Passed : Type 0 where
     pub some : length f ≡ 0 → ⊥
-    pub number : unknown n w ≡ false
+    pub number : unknown (loggedIn w) n ≡ false
     pub known : frameLength (code f) ≡ 0 → ⊥
     pub long : length f ≡ frameLength (code f)
     pub seat : misplaced n (code f) ≡ false
@@ -65,7 +65,7 @@ module _ (n : ℕ) (f w : List ℕ) where
   pub passed : frameTests n f w 0 ≡ 0 → Passed
   unfolding frameTests tests
   passed z =
-      let t = none-holds (eqb (length f) 0) (unknown n w) (eqb (frameLength (code f)) 0) (not (eqb (length f) (frameLength (code f)))) (misplaced n (code f)) (dtnSet f) (srcDiffers n f) z in
+      let t = none-holds (eqb (length f) 0) (unknown (loggedIn w) n) (eqb (frameLength (code f)) 0) (not (eqb (length f) (frameLength (code f)))) (misplaced n (code f)) (dtnSet f) (srcDiffers n f) z in
       record {
         some = eqb-false _ _ (t .no-1);
         number = t .no-2;
@@ -85,7 +85,7 @@ module _ (n : ℕ) (f w : List ℕ) where
   -- and where one of them holds, what comes last does not matter
   pub tests-stop : (x : ℕ) → (frameTests n f w 0 ≡ 0 → ⊥) → frameTests n f w x ≡ frameTests n f w 0
   unfolding frameTests tests
-  tests-stop x z = one-holds (eqb (length f) 0) (unknown n w) (eqb (frameLength (code f)) 0) (not (eqb (length f) (frameLength (code f)))) (misplaced n (code f)) (dtnSet f) (srcDiffers n f) x z
+  tests-stop x z = one-holds (eqb (length f) 0) (unknown (loggedIn w) n) (eqb (frameLength (code f)) 0) (not (eqb (length f) (frameLength (code f)))) (misplaced n (code f)) (dtnSet f) (srcDiffers n f) x z
 
   -- such a frame reads well
   pub reads-well : Passed → refusalOf f ≡ 0

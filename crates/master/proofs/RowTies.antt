@@ -2,7 +2,7 @@
 use Prim.Native.Nat.{ℕ, _*_, _≤_, _<_}
 use native.Mathlib.Omega.{arith}
 use mathlib.Core.Path.{_≡_, refl, sym, ap, subst, _∙_}
-use mathlib.Core.Bool.{Bool, true, false, cond, not, _&&_}
+use mathlib.Core.Bool.{Bool, true, false}
 use mathlib.Core.List.{List, []}
 use lib.Dec.{ltb}
 use lib.ListN.{length, take, set, drop-of-length-le, List·getD-eq-default}
@@ -10,18 +10,17 @@ use lib.Seq.{getD-set-same}
 use borrow.Author.Tests.{ne-eqb, ltb-true, ltb-false}
 use Rattle.rows.proofs.BoolLaws.{by-test, by-eq, both}
 use Rattle.rows.specs.Outcomes.{Leaves}
-use Rattle.rows.specs.Rows.{part, row, setRow}
-use Rattle.rows.specs.Numbers.{lowFirst, lowBytes}
+use Rattle.rows.specs.Rows.{part, row}
+use Rattle.rows.specs.Numbers.{lowFirst}
 use Rattle.who.specs.declared.Station.{Station}
-use Rattle.who.specs.Records.{flag, bytesOf, stationOf, nobody}
+use Rattle.who.specs.Records.{stationOf}
 use Rattle.who.specs.Good.{numbers}
-use Rattle.who.specs.Logins.{loggedIn, afterLogout}
-use Rattle.who.specs.Row.{vacant, absent, stationIn, isIn, goodRow, bytesOfRow, stationsOf, isRow}
-use Rattle.who.specs.Turns.{isOut}
+use Rattle.who.specs.Logins.{loggedIn}
+use Rattle.who.specs.Row.{absent, stationIn, isIn, goodRow, bytesOfRow, stationsOf, isRow}
 use Rattle.who.proofs.RowLaws.{row-is, row-good, no-row, length-stations, station-read, stations-logged}
 use Rattle.who.proofs.RowBytes.{Long, LongRow, TypedRow, length-row-bytes, stations-again, row-stands, put-same, bytes-put}
 use Rattle.who.proofs.WhoLaws.{logged-below}
-use Rattle.locks.specs.Good.{locks, soundRows, goodLocks}
+use Rattle.locks.specs.Good.{locks, goodLocks}
 use Rattle.locks.proofs.GoodLaws.{sound-same}
 use Rattle.master.specs.declared.PolledRow.{PolledRow}
 use Rattle.master.specs.declared.Turned.{Turned}
@@ -29,25 +28,12 @@ use Rattle.master.specs.declared.Turned.the-variants.{Refused, Turn}
 use Rattle.master.specs.Answers.{Told, refuses, answers, turnTold}
 use Rattle.master.specs.Tables.{goodTables}
 use Rattle.master.specs.Refusals.{unknown}
-use Rattle.master.specs.Polls.{stationAt, dueAt, outAt, withCounts, afterTurn, pollRefusal, turnLocks, turnRecords, pollTold, pollLocks, pollRecords, Polls}
-use Rattle.master.specs.RowPolls.{early, rowRefusal, turned, stepTold, stepLocks, rowAfter, RowPolls, isTurn, writtenBack}
-use Rattle.master.proofs.PollLaws.{polls-refused, poll-bad-tables}
-use Rattle.master.proofs.PollKeeps.{seated, turn-told-one}
-
--- any two outcomes of a poll turn over a row are equal
-pub row-polls-one : {n : ℕ} {h : Bool} {xs : List Station} {t : List ℕ} {r r′ : Turned} {xs₁ xs₂ : List Station} {t₁ t₂ : List ℕ} → RowPolls n h xs t r xs₁ t₁ → RowPolls n h xs t r′ xs₂ t₂ → (r ≡ r′) × (xs₁ ≡ xs₂) × (t₁ ≡ t₂)
-row-polls-one a b = (turn-told-one _ _ (a .answer ∙ sym (b .answer)), a .row ∙ sym (b .row), a .locks ∙ sym (b .locks))
-
--- a refused one: the row and the locks are what they were, and nothing is answered
-pub refused-row-untouched : (n : ℕ) (h : Bool) (xs : List Station) (t : List ℕ) (r : Turned) (xs′ : List Station) (t′ : List ℕ) → RowPolls n h xs t r xs′ t′ → (rowRefusal n h xs t ≡ 0 → ⊥)
-    → (r ≡ Refused (rowRefusal n h xs t)) × (xs′ ≡ xs) × (t′ ≡ t)
-unfolding stepTold stepLocks rowAfter turnTold
-refused-row-untouched n h xs t r xs′ t′ a ne =
-    let m = ne-eqb (rowRefusal n h xs t) 0 ne in
-    let tells : turnTold r ≡ turnTold (Refused (rowRefusal n h xs t)) = a .answer ∙ rw m in
-    let same-row : xs′ ≡ xs = a .row ∙ rw m in
-    let same-locks : t′ ≡ t = a .locks ∙ rw m in
-    (turn-told-one _ _ tells, same-row, same-locks)
+use Rattle.master.specs.Polls.{stationAt, withCounts, afterTurn, pollRefusal, Polls, turnRefusal, dueNow, outNow, stationTurn, pollEffect}
+use Rattle.master.specs.RowPolls.{rowRefusal, RowPolls, rowEffect}
+use Rattle.master.proofs.PollLaws.{seated, polls-refused, poll-bad-tables}
+use Rattle.master.proofs.PollKeeps.{refused-turn-untouched}
+use Rattle.master.specs.Effects.{unless}
+use Rattle.master.specs.Inner.{isTurn, writtenBack}
 
 -- what is told says whether there was a turn
 told-turn : Told → Bool
@@ -59,6 +45,10 @@ unfolding isTurn told-turn turnTold
 turn-by-told (Refused k) = refl
 turn-by-told (Turn due out) = refl
 
+turn-answers : (n : ℕ) (s : Station) (heard : Bool) (t : List ℕ) → told-turn (stationTurn n s heard t .tells) ≡ true
+unfolding stationTurn told-turn
+turn-answers n s heard t = by-test (outNow s heard) (λ y. rw y) (λ m. rw m)
+
 -- the row that stands in the bytes w
 module _ (n : ℕ) (heard : Bool) (w t : List ℕ) (stands : isRow w ≡ true) where
   abbrev xs : List Station
@@ -67,11 +57,11 @@ module _ (n : ℕ) (heard : Bool) (w t : List ℕ) (stands : isRow w ≡ true) w
   sized : length w ≡ 18 * numbers
   sized = row-is w stands .sized
 
-  same-locks : soundRows locks (isIn xs) t ≡ goodLocks (loggedIn w) t
+  same-locks : goodLocks (isIn xs) t ≡ goodLocks (loggedIn w) t
   unfolding goodLocks
   same-locks = sound-same locks t (isIn xs) (loggedIn w) (stations-logged w sized)
 
-  -- 12 in both, where a number has no record too
+  -- the same due in both, where a number has no record too
   past-row : numbers ≤ n → row 18 w n ≡ []
   unfolding part
   past-row h = ap (take 18) (drop-of-length-le w {i = 18 * n} (omega (arith, sized)))
@@ -80,54 +70,49 @@ module _ (n : ℕ) (heard : Bool) (w t : List ℕ) (stands : isRow w ≡ true) w
   unfolding stationIn
   past-station h = List·getD-eq-default xs absent {n = n} (omega (arith, length-stations w))
 
-  same-early : early (stationIn xs n) heard ≡ cond (heard && not (dueAt w n)) 12 0
-  unfolding early dueAt stationAt stationOf part lowFirst
-  same-early = by-test (ltb n numbers)
-      (λ y. ap (λ (s : Station). early s heard) (station-read w n (ltb-true n numbers y)))
+  same-due : dueNow (stationIn xs n) ≡ dueNow (stationAt w n)
+  unfolding dueNow stationAt stationOf part lowFirst
+  same-due = by-test (ltb n numbers)
+      (λ y. ap dueNow (station-read w n (ltb-true n numbers y)))
       (λ m.
       let h = ltb-false n numbers m in
-      ap (λ (s : Station). early s heard) (past-station h) ∙ sym (ap (λ (r : List ℕ). early (stationOf r) heard) (past-row h)))
+      ap dueNow (past-station h) ∙ sym (ap (λ (r : List ℕ). dueNow (stationOf r)) (past-row h)))
 
   same-refusal : rowRefusal n heard xs t ≡ pollRefusal n heard t w
-  unfolding rowRefusal pollRefusal goodTables unknown
-  same-refusal = rw (row-good w stands, same-locks, stations-logged w sized n, same-early)
+  unfolding rowRefusal pollRefusal turnRefusal goodTables unknown
+  same-refusal = rw (row-good w stands, same-locks, stations-logged w sized n, same-due)
 
   abbrev k : ℕ
   k = pollRefusal n heard t w
 
   module _ (z : k ≡ 0) where
     below : n < numbers
-    below = logged-below w sized n (seated n heard t w z .0)
+    unfolding pollRefusal
+    below = logged-below w sized n (seated (goodTables t w) (loggedIn w) n heard (dueNow (stationAt w n)) z .is-in)
 
     read : stationIn xs n ≡ stationAt w n
     unfolding stationAt
     read = station-read w n below
 
-    -- the record after the turn, in bytes
-    same-record : setRow 18 w n (bytesOf (turned (stationAt w n) heard)) ≡ turnRecords n heard w
-    unfolding turned turnRecords outAt afterLogout
-    same-record = by-test (isOut (stationAt w n .misses) (stationAt w n .slow) heard) (λ y. rw y vacant-bytes) (λ m. rw m)
-      where
-        vacant-bytes : setRow 18 w n (bytesOf vacant) ≡ setRow 18 w n nobody
-        vacant-bytes = ap (setRow 18 w n) (unfold bytesOf lowBytes flag in refl)
-
-    turned-record : (xs′ : List Station) → xs′ ≡ rowAfter n heard xs t → stationIn xs′ n ≡ turned (stationAt w n) heard
-    unfolding rowAfter stationIn
+    -- the record after the turn
+    turned-record : (xs′ : List Station) → xs′ ≡ rowEffect n heard xs t .records → stationIn xs′ n ≡ stationTurn n (stationAt w n) heard t .records
+    unfolding rowEffect unless stationIn
     turned-record xs′ e =
-        let after : xs′ ≡ set xs n (turned (stationIn xs n) heard) = e ∙ rw (same-refusal, z) in
+        let s = stationTurn n (stationIn xs n) heard t .records in
+        let after : xs′ ≡ set xs n s = e ∙ rw (same-refusal, z) in
         ap (λ (l : List Station). stationIn l n) after
-        ∙ getD-set-same xs n (turned (stationIn xs n) heard) absent (omega (arith, length-stations w, below))
-        ∙ ap (λ (s : Station). turned s heard) read
+        ∙ getD-set-same xs n s absent (omega (arith, length-stations w, below))
+        ∙ ap (λ (x : Station). stationTurn n x heard t .records) read
 
   -- the outcome over the row, written back, is the outcome over the bytes
   pub row-ties : (r : Turned) (xs′ : List Station) (t′ : List ℕ) → RowPolls n heard xs t r xs′ t′ → Polls n heard t w r t′ (writtenBack n (record { row = xs′; answer = r }) w)
-  unfolding stepTold stepLocks pollTold pollLocks pollRecords turnLocks dueAt outAt writtenBack told-turn
+  unfolding rowEffect pollEffect unless writtenBack told-turn stationTurn
   row-ties r xs′ t′ a = by-eq k 0
       (λ z.
-      let turn : isTurn r ≡ true = turn-by-told r ∙ ap told-turn (a .answer) ∙ rw (same-refusal, z) in record {
+      let turn : isTurn r ≡ true = turn-by-told r ∙ ap told-turn (a .answer) ∙ rw (same-refusal, z) (turn-answers n (stationIn xs n) heard t) in record {
         answer = a .answer ∙ rw (same-refusal, z, read z);
         locks = a .locks ∙ rw (same-refusal, z, read z);
-        records = rw (turn, z, turned-record z xs′ (a .row)) (same-record z);
+        records = rw (turn, z, turned-record z xs′ (a .records));
       })
       (λ ne.
       let m = ne-eqb k 0 ne in
@@ -143,7 +128,7 @@ module _ (n : ℕ) (heard : Bool) (w t : List ℕ) (stands : isRow w ≡ true) w
     over-row = subst (λ (l : List Station). RowPolls n heard l t (p .answer) (p .row) t′) read-out polls
 
     pub turn-below : isTurn (p .answer) ≡ true → n < numbers
-    unfolding stepTold told-turn
+    unfolding rowEffect unless told-turn
     turn-below y = by-eq k 0 below (λ ne. both y (turn-by-told (p .answer) ∙ ap told-turn (over-row .answer) ∙ rw (same-refusal, ne-eqb k 0 ne)))
 
     pub polls-written : (r : Turned) (w′ : List ℕ) → Leaves (p .answer) (writtenBack n p w) r w′ → Polls n heard t w r t′ w′
@@ -159,9 +144,9 @@ unfolding goodTables
 row-missing t w m = rw (no-row w m)
 
 -- a turn keeps the lengths of a record's parts
-turned-long : (s : Station) (heard : Bool) → Long s → Long (turned s heard)
-unfolding turned afterTurn withCounts
-turned-long s heard h = by-test (isOut (s .misses) (s .slow) heard)
+turned-long : (n : ℕ) (s : Station) (heard : Bool) (t : List ℕ) → Long s → Long (stationTurn n s heard t .records)
+unfolding stationTurn afterTurn withCounts
+turned-long n s heard t h = by-test (outNow s heard)
     (λ y. rw y (record { name = refl; serial = refl }))
     (λ m. rw m (record { name = h .name; serial = h .serial }))
 
@@ -174,20 +159,20 @@ module _ (n : ℕ) (heard : Bool) (ys : List Station) (t : List ℕ) (typed : Ty
   bytes = bytesOfRow ys
 
   written : length ys ≡ numbers → (isTurn r ≡ true → n < numbers) → bytesOfRow ys′ ≡ writtenBack n (record { row = ys′; answer = r }) bytes
-  unfolding writtenBack rowAfter stepTold told-turn
+  unfolding writtenBack rowEffect unless told-turn stationTurn
   written sized below-then = by-eq (rowRefusal n heard ys t) 0
       (λ z.
-      let turn : isTurn r ≡ true = turn-by-told r ∙ ap told-turn (a .answer) ∙ rw z in
+      let turn : isTurn r ≡ true = turn-by-told r ∙ ap told-turn (a .answer) ∙ rw z (turn-answers n (stationIn ys n) heard t) in
       let l = below-then turn in
-      let s = turned (stationIn ys n) heard in
-      let h = turned-long (stationIn ys n) heard (longs n (omega arith)) in
-      let after : ys′ ≡ set ys n s = a .row ∙ rw z in
+      let s = stationTurn n (stationIn ys n) heard t .records in
+      let h = turned-long n (stationIn ys n) heard t (longs n (omega arith)) in
+      let after : ys′ ≡ set ys n s = a .records ∙ rw z in
       let back : stationIn ys′ n ≡ s = ap (λ (q : List Station). stationIn q n) after ∙ put-same ys longs sized n l s h in
       rw (turn, back) (ap bytesOfRow after ∙ bytes-put ys longs sized n l s h))
       (λ ne.
       let m = ne-eqb (rowRefusal n heard ys t) 0 ne in
       let still : isTurn r ≡ false = turn-by-told r ∙ ap told-turn (a .answer) ∙ rw m in
-      let same : ys′ ≡ ys = a .row ∙ rw m in
+      let same : ys′ ≡ ys = a .records ∙ rw m in
       rw still (ap bytesOfRow same))
 
   full-row : length ys ≡ numbers → Polls n heard t bytes r t′ (bytesOfRow ys′)
@@ -203,7 +188,7 @@ module _ (n : ℕ) (heard : Bool) (ys : List Station) (t : List ℕ) (typed : Ty
 
   -- a row of another length is refused, and so are its bytes
   row-11 : (length ys ≡ numbers → ⊥) → rowRefusal n heard ys t ≡ 11
-  unfolding rowRefusal goodRow
+  unfolding rowRefusal turnRefusal goodRow
   row-11 ne = rw (ne-eqb (length ys) numbers ne)
 
   bytes-11 : (length ys ≡ numbers → ⊥) → isRow bytes ≡ false
@@ -211,12 +196,13 @@ module _ (n : ℕ) (heard : Bool) (ys : List Station) (t : List ℕ) (typed : Ty
   bytes-11 ne = rw (ne-eqb (length bytes) (18 * numbers) (λ e. ne (omega (arith, length-row-bytes ys longs))))
 
   other-size : (length ys ≡ numbers → ⊥) → Polls n heard t bytes r t′ (bytesOfRow ys′)
+  unfolding rowEffect
   other-size ne =
-      let u = refused-row-untouched n heard ys t r ys′ t′ a (λ z. let lie : _≡_ {A = ℕ} 11 0 = sym (row-11 ne) ∙ z in omega arith) in
+      let u = refused-turn-untouched _ t ys _ r t′ ys′ a (λ z. let lie : _≡_ {A = ℕ} 11 0 = sym (row-11 ne) ∙ z in omega arith) in
       let d = polls-refused n heard t bytes 11 (poll-bad-tables n heard t bytes (row-missing t bytes (bytes-11 ne))) (λ e. omega arith) in record {
         answer = ap turnTold (u .0 ∙ ap Refused (row-11 ne)) ∙ d .answer;
-        locks = u .2 ∙ d .locks;
-        records = ap bytesOfRow (u .1) ∙ d .records;
+        locks = u .1 ∙ d .locks;
+        records = ap bytesOfRow (u .2) ∙ d .records;
       }
 
   pub row-encodes : Polls n heard t bytes r t′ (bytesOfRow ys′)

@@ -1,6 +1,6 @@
 -- The cases of serving a frame, one law each.
 use Prim.Native.Nat.{ℕ}
-use mathlib.Core.Path.{_≡_, refl, sym, _∙_}
+use mathlib.Core.Path.{_≡_, refl, _∙_}
 use mathlib.Core.Bool.{true, false}
 use mathlib.Core.Logic.{_⊎_, inl, inr, ⊎-elim}
 use mathlib.Core.List.{List}
@@ -19,8 +19,11 @@ use Rattle.master.specs.declared.Answer.the-variants.{Refused}
 use Rattle.master.specs.Tables.{goodTables}
 use Rattle.master.specs.Answers.{refuses, told}
 use Rattle.master.specs.Refusals.{placeRefusal, frameTests, frameRefusal, refusal}
-use Rattle.master.specs.Frames.{placeTold, answerTo, locksBy, recordsBy, frameTold, frameLocks, frameRecords, Performs, Serves}
+use Rattle.master.specs.Frames.{placeTold, Serves, effectOf, requestEffect, frameEffect}
 use Rattle.master.proofs.RefusalLaws.{passed, tests-pass, tests-stop}
+use Rattle.master.specs.Effects.{telling, unless}
+use Rattle.master.specs.Inner.{Performs}
+use Rattle.master.proofs.EffectLaws.{refusing}
 
 -- a frame with an address is a read or a write of it
 address-command : (f : List ℕ) → carriesAddress (code f) ≡ true → (requestIn f ≡ plain (Read (getD f 2 0) (addressIn f))) ⊎ (requestIn f ≡ plain (Write (getD f 2 0) (addressIn f)))
@@ -32,12 +35,8 @@ address-command f y = by-eq (code f) READ
 module _ (n : ℕ) (f s t w : List ℕ) where
   -- a refused frame, by its number
   pub serves-refused : (k : ℕ) → refusal n f s t w ≡ k → (k ≡ 0 → ⊥) → Serves n f s t w (Refused k) t w
-  unfolding frameTold frameLocks frameRecords told
-  serves-refused k e ne = record {
-    answer = rw (e, ne-eqb k 0 ne);
-    locks = rw (e, ne-eqb k 0 ne);
-    records = rw (e, ne-eqb k 0 ne);
-  }
+  unfolding frameEffect told
+  serves-refused k e ne = rw e (refusing k t w (requestEffect (requestIn f) n s t w) ne)
 
   pub bad-tables : goodTables t w ≡ false → refusal n f s t w ≡ 11
   unfolding refusal
@@ -54,9 +53,9 @@ module _ (n : ℕ) (f s t w : List ℕ) where
       past-both = rw (tables, site)
 
       -- 1 to 7
-      pub early : (frameTests n f w 0 ≡ 0 → ⊥) → refusal n f s t w ≡ frameTests n f w 0
+      pub stops : (frameTests n f w 0 ≡ 0 → ⊥) → refusal n f s t w ≡ frameTests n f w 0
       unfolding frameRefusal
-      early z = past-both ∙ tests-stop n f w (placeRefusal f s) z
+      stops z = past-both ∙ tests-stop n f w (placeRefusal f s) z
 
       -- a frame that passes these does what its command does
       module _ (z : frameTests n f w 0 ≡ 0) where
@@ -69,28 +68,22 @@ module _ (n : ℕ) (f s t w : List ℕ) where
         unfolding placeTold
         place-told k e ne = rw (e, ne-eqb k 0 ne)
 
-        refused-place : carriesAddress (code f) ≡ true → (k : ℕ) → placedIn s (addressIn f) .refusal ≡ k → (k ≡ 0 → ⊥)
-            → (refuses k ≡ answerTo (requestIn f .command) (requestIn f) n s t w) × (t ≡ locksBy (requestIn f .command) (requestIn f) n t) × (w ≡ recordsBy (requestIn f .command) (requestIn f) n s w)
-        unfolding answerTo locksBy recordsBy plain
+        refused-place : carriesAddress (code f) ≡ true → (k : ℕ) → placedIn s (addressIn f) .refusal ≡ k → (k ≡ 0 → ⊥) → telling (refuses k) t w ≡ requestEffect (requestIn f) n s t w
+        unfolding requestEffect effectOf plain
         refused-place y k e ne = ⊎-elim
-            (λ (q : requestIn f ≡ plain (Read (getD f 2 0) (addressIn f))). rw q (sym (place-told k e ne), refl, refl))
-            (λ (q : requestIn f ≡ plain (Write (getD f 2 0) (addressIn f))). rw q (sym (place-told k e ne), refl, refl))
+            (λ (q : requestIn f ≡ plain (Read (getD f 2 0) (addressIn f))). rw (q, place-told k e ne))
+            (λ (q : requestIn f ≡ plain (Write (getD f 2 0) (addressIn f))). rw (q, place-told k e ne))
             (address-command f y)
 
-        same-outcome : (frameTold n f s t w ≡ answerTo (requestIn f .command) (requestIn f) n s t w) × (frameLocks n f s t w ≡ locksBy (requestIn f .command) (requestIn f) n t) × (frameRecords n f s t w ≡ recordsBy (requestIn f .command) (requestIn f) n s w)
-        unfolding frameTold frameLocks frameRecords placeRefusal
-        same-outcome = by-test (carriesAddress (code f))
+        same-effect : frameEffect n f s t w ≡ requestEffect (requestIn f) n s t w
+        unfolding frameEffect unless placeRefusal
+        same-effect = by-test (carriesAddress (code f))
             (λ y. by-eq (placedIn s (addressIn f) .refusal) 0
-            (λ e. let none : refusal n f s t w ≡ 0 = last ∙ rw (y, e) in rw none (refl, refl, refl))
+            (λ e. let none : refusal n f s t w ≡ 0 = last ∙ rw (y, e) in rw none)
             (λ ne.
-            let k : ℕ = placedIn s (addressIn f) .refusal in
             let some : refusal n f s t w ≡ placedIn s (addressIn f) .refusal = last ∙ rw y in
             rw (some, ne-eqb (placedIn s (addressIn f) .refusal) 0 ne) (refused-place y (placedIn s (addressIn f) .refusal) refl ne)))
-            (λ no-address. let none : refusal n f s t w ≡ 0 = last ∙ rw no-address in rw none (refl, refl, refl))
+            (λ no-address. let none : refusal n f s t w ≡ 0 = last ∙ rw no-address in rw none)
 
         pub serves-done : (r : Answer) (t′ w′ : List ℕ) → Performs (requestIn f) n s t w r t′ w′ → Serves n f s t w r t′ w′
-        serves-done r t′ w′ p = record {
-          answer = p .answer ∙ sym (same-outcome .0);
-          locks = p .locks ∙ sym (same-outcome .1);
-          records = p .records ∙ sym (same-outcome .2);
-        }
+        serves-done r t′ w′ p = rw same-effect p

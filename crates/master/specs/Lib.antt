@@ -1,7 +1,9 @@
 pub mod Tables
 pub mod Answers
+pub mod Effects
 pub mod Refusals
 pub mod Frames
 pub mod Fresh
 pub mod Polls
 pub mod RowPolls
+pub mod Inner

@@ -15,9 +15,9 @@ use Rattle.master.specs.Tables.{goodTables}
 abbrev pub ANYBODY : ℕ
 ANYBODY = 253
 
--- 2: the number is not 0 to 63 or 253, or is 0 to 63 and not logged in
-unfoldable pub unknown : ℕ → List ℕ → Bool
-unknown n w = not (eqb n ANYBODY || loggedIn w n)
+-- 2: the number is not 0 to 63 or 253, or is 0 to 63 and not logged in. `inside` says who is logged in
+unfoldable pub unknown : (ℕ → Bool) → ℕ → Bool
+unknown inside n = not (eqb n ANYBODY || inside n)
 
 -- 5: login not at 253; another command at 253; logout at 0
 unfoldable pub misplaced : ℕ → ℕ → Bool
@@ -41,7 +41,7 @@ placeRefusal f s = cond (carriesAddress (code f)) (placedIn s (addressIn f) .ref
 unfoldable pub frameTests : ℕ → List ℕ → List ℕ → ℕ → ℕ
 frameTests n f w last =
     cond (eqb (length f) 0) 1
-    (cond (unknown n w) 2
+    (cond (unknown (loggedIn w) n) 2
     (cond (eqb (frameLength (code f)) 0) 3
     (cond (not (eqb (length f) (frameLength (code f)))) 4
     (cond (misplaced n (code f)) 5

@@ -19,7 +19,8 @@ ghost use Rattle.site.specs.Places.{placedIn};
 ghost use Rattle.who.specs.Good.{goodRecords, numbers};
 ghost use Rattle.master.specs.Tables.{goodTables};
 ghost use Rattle.master.specs.Answers.{answers, told, assign-bytes};
-ghost use Rattle.master.specs.Frames.{placeTold, assignAnswer, Logs, LogsOut, Performs};
+ghost use Rattle.master.specs.Frames.{placeTold, assignAnswer};
+ghost use Rattle.master.specs.Inner.{LogsIn, LogsOut, Performs};
 
 // Read, write: the place.
 fn place(site: &[u8], address: Address) -> Answer
@@ -38,7 +39,7 @@ fn place(site: &[u8], address: Address) -> Answer
 // Login: the lowest free number is logged in.
 fn log_in(q: Request, product: u8, site: &[u8], records: &mut [u8]) -> Answer
     requires { ⌜ (goodRecords (now records) ≡ true) × (goodSite (now site) ≡ true) ⌝ }
-    ensures { λ r. ⌜ Logs q product (now (site .entry)) (now (records .entry)) r (now (records .exit)) ⌝ }
+    ensures { λ r. ⌜ LogsIn q product (now (site .entry)) (now (records .entry)) r (now (records .exit)) ⌝ }
 {
     let name = q.name;
     let password = q.password;

@@ -6,20 +6,22 @@ use crate::Turned;
 use crate::refusals;
 use who::Station;
 ghost use mathlib.Core.Path.{_≡_};
-ghost use mathlib.Core.Bool.{true, cond, not, _&&_, _||_};
+ghost use mathlib.Core.Bool.{true, cond, not, _&&_};
 ghost use Prim.Native.Nat.{_*_, _<_};
-ghost use lib.Dec.{eqb, ltb};
+ghost use lib.Dec.{ltb};
 ghost use lib.ListN.{length};
 ghost use Rattle.rows.specs.Numbers.{bitAt};
 ghost use Rattle.rows.specs.Outcomes.{Leaves};
 ghost use Rattle.who.specs.Good.{goodCounts, numbers};
-ghost use Rattle.master.specs.Refusals.{ANYBODY};
+ghost use Rattle.master.specs.Refusals.{unknown};
 ghost use Rattle.master.specs.Polls.{withCounts};
-ghost use Rattle.master.specs.RowPolls.{early, wordRefusal, stepRefusal, Steps, RowPolls, isTurn, writtenBack};
+ghost use Rattle.locks.specs.Good.{goodLocks};
+ghost use Rattle.master.specs.RowPolls.{RowPolls};
+ghost use Rattle.master.specs.Inner.{seatRefusal, early, stepRefusal, Steps, isTurn, writtenBack};
 
 // The number is nobody's, by the word of who is logged in.
 fn is_stranger(number: u32, word: u64) -> bool
-    ensures { λ r. ⌜ r ≡ not (eqb number ANYBODY || bitAt word number) ⌝ }
+    ensures { λ r. ⌜ r ≡ unknown (bitAt word) number ⌝ }
 {
     if number == refusals::ANYBODY {
         return false;
@@ -29,7 +31,7 @@ fn is_stranger(number: u32, word: u64) -> bool
 
 // 2 or 5, or 0.
 fn seat_refusal(number: u32, word: u64) -> u8
-    ensures { λ r. ⌜ r ≡ cond (not (eqb number ANYBODY || bitAt word number)) 2 (cond (eqb number 0 || eqb number ANYBODY) 5 0) ⌝ }
+    ensures { λ r. ⌜ r ≡ seatRefusal true (bitAt word) number ⌝ }
 {
     if is_stranger(number, word) {
         return 2;
@@ -62,7 +64,7 @@ fn is_early(heard: bool, due: bool) -> bool
 
 // 11 for the lock table, 2 or 5, or 0. The word says who is logged in.
 fn word_refusal(word: u64, number: u32, locks: &[u8]) -> u8
-    ensures { λ r. ⌜ r ≡ wordRefusal word number (now (locks .entry)) ⌝ }
+    ensures { λ r. ⌜ r ≡ seatRefusal (goodLocks (bitAt word) (now (locks .entry))) (bitAt word) number ⌝ }
 {
     if !locks::is_good(locks, word) {
         return 11;

@@ -3,6 +3,7 @@ use frames::code;
 ghost use mathlib.Core.Path.{_≡_};
 ghost use mathlib.Core.Bool.{cond};
 ghost use lib.ListN.{length};
+ghost use Rattle.who.specs.Logins.{loggedIn};
 ghost use Rattle.frames.specs.Table.{frameLength};
 ghost use Rattle.frames.specs.Reading.{code as codeOf};
 ghost use Rattle.master.specs.Refusals.{unknown, misplaced, dtnSet, srcDiffers, frameTests};
@@ -12,7 +13,7 @@ pub const ANYBODY: u32 = 253;
 
 // The number is nobody's: refusal 2.
 pub fn is_unknown(number: u32, records: &[u8]) -> bool
-    ensures { λ r. ⌜ r ≡ unknown number (now (records .entry)) ⌝ }
+    ensures { λ r. ⌜ r ≡ unknown (loggedIn (now (records .entry))) number ⌝ }
 {
     if number == ANYBODY {
         return false;

@@ -12,7 +12,7 @@ use Rattle.rows.proofs.BoolLaws.{by-test}
 use Rattle.rows.specs.Rows.{part}
 use Rattle.session.proofs.PlayLaws.{play-on, play-none}
 use Rattle.session.specs.Records.{number, frameSize, frame, recordSize, whole}
-use Rattle.session.specs.Session.{Stand, nextLine, next, still, after, playIn, play, fed, playBlocks}
+use Rattle.session.specs.Session.{Stand, served, nextLine, next, still, after, playIn, play, fed, playBlocks}
 
 -- a whole record has two bytes or more, and they are all there
 sized : (r : List ℕ) → whole r ≡ true → (2 ≤ recordSize r) × (recordSize r ≤ length r)
@@ -50,17 +50,17 @@ module _ (s : List ℕ) where
   -- the next record of a session that is fed
   module _ (d : Stand) (b : List ℕ) (y : whole (d .rest) ≡ true) where
     line-same : nextLine s (fed d b) ≡ nextLine s d
-    unfolding nextLine
+    unfolding nextLine served
     line-same = rw (number-same (d .rest) b y, frame-same (d .rest) b y)
 
     next-same : next s (fed d b) ≡ fed (next s d) b
-    unfolding next
+    unfolding next served
     next-same = let z = sized (d .rest) y in
         rw (size-same (d .rest) b y, drop-append-le (recordSize (d .rest)) (d .rest) b (z .1), number-same (d .rest) b y, frame-same (d .rest) b y)
 
   -- it takes bytes away from the input
   next-short : (d : Stand) → whole (d .rest) ≡ true → length (next s d .rest) < length (d .rest)
-  unfolding next
+  unfolding next served
   next-short d y = let z = sized (d .rest) y in rw length-drop (omega arith)
 
   -- how many records are allowed does not matter where the input has no more

@@ -8,12 +8,12 @@ use lib.ListN.{length, drop, getD, length-append, length-drop}
 use lib.Seq.{drop-drop}
 use Rattle.rows.specs.Rows.{over}
 use Rattle.rows.proofs.RowLaws.{over-next}
-use Rattle.master.specs.Frames.{frameTold}
 use Rattle.lines.proofs.LineLaws.{line-long}
 use Rattle.session.specs.declared.block.Played.{Played}
 use Rattle.session.specs.Records.{number, frame, recordSize, whole}
-use Rattle.session.specs.Session.{Stand, Outcome, nextLine, next, still, after, playIn, play, Adds, Plays}
+use Rattle.session.specs.Session.{Stand, Outcome, served, nextLine, next, still, after, playIn, play, Adds, Plays, served}
 use Rattle.session.proofs.RecordLaws.{Whole, broken-short}
+use Rattle.master.specs.Frames.{frameEffect}
 
 -- one record more, and none
 pub play-on : (s : List ℕ) (d : Stand) (k : ℕ) → whole (d .rest) ≡ true → playIn (suc k) s d ≡ after (nextLine s d) (playIn k s (next s d))
@@ -60,17 +60,17 @@ module _ (f : List ℕ) (i₀ : ℕ) (s t₀ w₀ o₀ t w o : List ℕ) (at i u
   on-stand : (n u′ : ℕ) (t′ w′ o′ : List ℕ) → n ≡ recordSize (drop at f)
       → Adds i (number (drop at f)) (frame (drop at f)) s t w o u u′ t′ w′ o′
       → next s (standAt f at i t w) ≡ standAt f (at + n) (i + 1) t′ w′
-  unfolding next
+  unfolding next served
   on-stand n u′ t′ w′ o′ e a = rw (← e, drop-drop n at f, ← a .locks, ← a .records)
 
   pub playing-on : (n u′ : ℕ) (t′ w′ o′ : List ℕ) → Whole f at n → 48 * length f ≤ length o₀
       → Adds i (number (drop at f)) (frame (drop at f)) s t w o u u′ t′ w′ o′
       → Playing f i₀ s t₀ w₀ o₀ t′ w′ o′ (at + n) (i + 1) u′
-  unfolding nextLine
+  unfolding nextLine served
   playing-on n u′ t′ w′ o′ y fits a =
       let d = standAt f at i t w in
       let line : List ℕ = nextLine s d in
-      let short : length line ≤ 87 = line-long i (number (drop at f)) (frameTold (number (drop at f)) (frame (drop at f)) s t w) in
+      let short : length line ≤ 87 = line-long i (number (drop at f)) (frameEffect (number (drop at f)) (frame (drop at f)) s t w .tells) in
       let more : p .left ≡ suc (p .left - 1) = omega (arith, p .enough, y .more, y .inside) in
       let step = on-stand n u′ t′ w′ o′ (y .size) a in
       record {

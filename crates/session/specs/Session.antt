@@ -5,10 +5,11 @@ use mathlib.Core.Bool.{cond}
 use mathlib.Core.List.{List, [], _∷_, _++_}
 use lib.ListN.{length, take, drop}
 use Rattle.rows.specs.Rows.{over}
-use Rattle.master.specs.Frames.{frameTold, frameLocks, frameRecords}
 use Rattle.lines.specs.Line.{lineText, Writes}
 use Rattle.session.specs.declared.block.Played.{Played}
 use Rattle.session.specs.Records.{number, frame, recordSize, whole}
+use Rattle.master.specs.Effects.{Effect}
+use Rattle.master.specs.Frames.{frameEffect}
 
 -- where a session stands: the input still to play, the index of its first record, and the tables
 pub record Stand : Type 0 where
@@ -22,16 +23,20 @@ pub record Outcome : Type 0 where
   pub text : List ℕ
   pub stand : Stand
 
+-- what the frame of the next record does, with the site file s
+unfoldable pub served : List ℕ → Stand → Effect (List ℕ)
+served s d = frameEffect (number (d .rest)) (frame (d .rest)) s (d .locks) (d .records)
+
 -- the line of the next record, with the site file s, and where the session stands after it
 unfoldable pub nextLine : List ℕ → Stand → List ℕ
-nextLine s d = lineText (d .index) (number (d .rest)) (frameTold (number (d .rest)) (frame (d .rest)) s (d .locks) (d .records))
+nextLine s d = lineText (d .index) (number (d .rest)) (served s d .tells)
 
 unfoldable pub next : List ℕ → Stand → Stand
 next s d = record {
   rest = drop (recordSize (d .rest)) (d .rest);
   index = d .index + 1;
-  locks = frameLocks (number (d .rest)) (frame (d .rest)) s (d .locks) (d .records);
-  records = frameRecords (number (d .rest)) (frame (d .rest)) s (d .locks) (d .records);
+  locks = served s d .locks;
+  records = served s d .records;
 }
 
 -- nothing more is played
@@ -62,9 +67,9 @@ playBlocks (b ∷ bs) s d = after (play s (fed d b) .text) (playBlocks bs s (pla
 
 -- a frame f served at the number n: its line is put down in the output o at `used`, and the line's end is answered
 pub record Adds (i n : ℕ) (f s t w o : List ℕ) (used r : ℕ) (t′ w′ o′ : List ℕ) : Type 0 where
-  pub line : Writes (lineText i n (frameTold n f s t w)) o used r o′
-  pub locks : t′ ≡ frameLocks n f s t w
-  pub records : w′ ≡ frameRecords n f s t w
+  pub line : Writes (lineText i n (frameEffect n f s t w .tells)) o used r o′
+  pub locks : t′ ≡ frameEffect n f s t w .locks
+  pub records : w′ ≡ frameEffect n f s t w .records
 
 -- a block of input f from record i on: its whole records are played, and their lines stand at the start of the output o.
 -- The last three are said for the arithmetic of the caller

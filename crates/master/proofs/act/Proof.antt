@@ -1,7 +1,6 @@
 use mathlib.Core.Path.{_≡_, sym, ap, subst, _∙_}
-use Rattle.master.proofs.ServeLaws.{serves-refused, early, serves-done}
+use Rattle.master.proofs.ServeLaws.{serves-refused, stops, serves-done}
 use Rattle.master.proofs.RefusalLaws.{passed, reads-well, number-small, seat-in}
-use Rattle.master.specs.Frames.{Performs}
 use Rattle.master.specs.Refusals.{frameTests}
 use Rattle.master.specs.Tables.{goodTables}
 use Rattle.who.specs.Logins.{loggedIn}
@@ -24,10 +23,11 @@ use Prim.Native.Nat.{ℕ}
 use borrow.Author.Needs.{needs}
 use Rattle.master.proofs.act.Statement.{statement}
 use Rattle.master.proofs.act.Tie as tie
+use Rattle.master.specs.Inner.{Performs}
 
 returns : tie.Need-returns
 returns c = let z = c .before .first-of .ensures in
-    serves-refused _ _ _ _ _ (c .before .first-of .result) (early _ _ _ _ _ (c .before .before .before .before .before .before .before .pre .0) (c .before .before .before .before .before .before .before .pre .1) (λ e. c .if1 .taken (z ∙ e)) ∙ sym z) (c .if1 .taken)
+    serves-refused _ _ _ _ _ (c .before .first-of .result) (stops _ _ _ _ _ (c .before .before .before .before .before .before .before .pre .0) (c .before .before .before .before .before .before .before .pre .1) (λ e. c .if1 .taken (z ∙ e)) ∙ sym z) (c .if1 .taken)
 
 -- good tables have 64 records
 sized : (t w : List ℕ) → goodTables t w ≡ true → length w ≡ 1152

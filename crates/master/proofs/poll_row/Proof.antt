@@ -65,7 +65,7 @@ use Rattle.who.proofs.lent.roll_call.Met as roll-thm
 use Rattle.master.specs.declared.Step.{Step}
 use Rattle.master.specs.declared.Turned.{Turned}
 use Rattle.master.specs.declared.Turned.the-variants.{Refused}
-use Rattle.master.specs.RowPolls.{RowPolls, stepRefusal, Steps}
+use Rattle.master.specs.RowPolls.{RowPolls}
 use Rattle.master.proofs.RowPollLaws.{slot-below, row-bad, row-steps}
 use Rattle.master.proofs.Turned as P
 use Rattle.master.proofs.Turned.Laws as P′
@@ -84,6 +84,7 @@ use Rattle.master.proofs.poll_row as poll
 use Rattle.master.proofs.poll_row.Statement as stated
 use Rattle.master.proofs.poll_row.Code as code
 use Rattle.master.proofs.poll_row.Code.Mir as m′
+use Rattle.master.specs.Inner.{stepRefusal, Steps}
 
 abbrev R : RattleType
 R = T.the-row

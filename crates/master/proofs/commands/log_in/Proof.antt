@@ -1,15 +1,16 @@
-use Rattle.master.specs.Frames.{hasFree, nameFound, loginAnswer, loginRecords}
+use Rattle.master.specs.Frames.{nameFound, numberGiven, loginEffect}
 use Rattle.master.specs.Answers.{told}
-use Rattle.who.proofs.WhoLaws.{good-is}
+use Rattle.who.proofs.WhoLaws.{good-is, lowest-free-is}
 use Rattle.who.specs.Logins.{lowestFree, loggedInAs, afterLogin}
 use Rattle.who.specs.Good.{numbers}
-use Rattle.who.specs.Records.{flag}
 use Rattle.rows.specs.Numbers.{lowFirst}
 use Rattle.rows.specs.Rows.{part}
-use borrow.Author.Tests.{lt-ltb, le-ltb}
+use borrow.Author.Tests.{ne-eqb, lt-ltb, le-ltb}
 use denote.Ref.{now}
 use lib.Seq.{take-all}
+use lib.Dec.{eqb}
 use lib.ListN.{length}
+use mathlib.Core.Bool.{false}
 use mathlib.Core.List.{List}
 use mathlib.Core.Path.{_≡_, ap, _∙_}
 use native.Mathlib.Omega.{arith}
@@ -27,25 +28,27 @@ unfolding part
 whole l full = take-all 4 l (omega arith)
 
 returns : tie.Need-returns
-unfolding told flag loginAnswer loginRecords hasFree
-returns c = let a = c .before .before .before .before .before .before .before .before .before .before .args in
+unfolding told loginEffect numberGiven
+returns c t = let a = c .before .before .before .before .before .before .before .before .before .before .args in
     let full : length (a .q .serial) ≡ 4 = search needs in
     let none : numbers ≤ lowestFree (now (a .records)) = rw (c .before .lowest-free .ensures .answer) at (c .if1 .taken) in
     let sent : c .before .before .before .four-at .result ≡ lowFirst (a .q .serial) = c .before .before .before .four-at .ensures ∙ ap lowFirst (whole (a .q .serial) full) in
-    record { answer = rw (le-ltb _ numbers none, sent); records = rw (le-ltb _ numbers none) }
+    record { answer = rw (le-ltb _ numbers none, sent); locks = rw (le-ltb _ numbers none); records = rw (le-ltb _ numbers none) }
 
 put-station-requires : tie.Need-put-station-requires
 put-station-requires c κs = omega (arith, good-is (now (c .before .before .before .before .before .before .before .before .before .before .before .before .args .records)) (c .before .before .before .before .before .before .before .before .before .before .before .before .pre .0) .sized, c .before .before .if1 .left)
 
 returns-2 : tie.Need-returns-2
-unfolding told loginAnswer loginRecords hasFree nameFound afterLogin loggedInAs
-returns-2 c = let a = c .before .before .before .before .before .before .before .before .before .before .before .before .before .before .before .args in
+unfolding told loginEffect numberGiven nameFound afterLogin loggedInAs
+returns-2 c t = let a = c .before .before .before .before .before .before .before .before .before .before .before .before .before .before .before .args in
     let full : length (a .q .serial) ≡ 4 = search needs in
     let some : lowestFree (now (a .records)) < numbers = rw (c .before .before .before .before .before .before .lowest-free .ensures .answer) at (c .before .before .before .before .before .if1 .left) in
     let sent : c .before .before .before .before .before .before .before .before .four-at .result ≡ lowFirst (a .q .serial) = c .before .before .before .before .before .before .before .before .four-at .ensures ∙ ap lowFirst (whole (a .q .serial) full) in
+    let first : eqb (lowestFree (now (a .records))) 0 ≡ false = ne-eqb _ _ (λ (z : lowestFree (now (a .records)) ≡ 0). omega (arith, lowest-free-is (now (a .records)) (good-is (now (a .records)) (c .before .before .before .before .before .before .before .before .before .before .before .before .before .before .before .pre .0) .sized) some .0)) in
     record {
-      answer = rw (lt-ltb _ numbers some, sent, c .before .before .before .before .before .before .lowest-free .ensures .answer, c .before .before .before .before .has-user .ensures .answer);
-      records = rw (lt-ltb _ numbers some) (c .before .before .put-station .ensures ∙ rw (c .before .before .before .before .before .before .lowest-free .ensures .answer, c .before .before .before .before .has-user .ensures .answer));
+      answer = rw (lt-ltb _ numbers some, first, sent, c .before .before .before .before .before .before .lowest-free .ensures .answer, c .before .before .before .before .has-user .ensures .answer);
+      locks = rw (lt-ltb _ numbers some, first);
+      records = rw (lt-ltb _ numbers some, first) (c .before .before .put-station .ensures ∙ rw (c .before .before .before .before .before .before .lowest-free .ensures .answer, c .before .before .before .before .has-user .ensures .answer));
     }
 
 pub log-in-spec : {M : Type 1} → statement M

@@ -1,10 +1,10 @@
 use Rattle.who.specs.Row.{stationIn}
-use Rattle.master.specs.RowPolls.{isTurn, writtenBack}
 use native.Mathlib.Omega.{arith}
 use mathlib.Core.Path.{sym, ap}
 use borrow.Author.Needs.{needs}
 use Rattle.master.proofs.poll.write_back.Statement.{statement}
 use Rattle.master.proofs.poll.write_back.Tie as tie
+use Rattle.master.specs.Inner.{isTurn, writtenBack}
 
 element-copy-out-put-station : tie.Need-element-copy-out-put-station
 unfolding isTurn

@@ -1,0 +1,26 @@
+-- What an entry does: what it tells, and the tables it leaves. The station records are bytes, or records as such.
+use Prim.Native.Nat.{ℕ}
+use mathlib.Core.Path.{_≡_}
+use mathlib.Core.Bool.{cond}
+use mathlib.Core.List.{List}
+use lib.Dec.{eqb}
+use Rattle.master.specs.Answers.{Told, refuses}
+
+pub record Effect (A : Type 0) : Type 0 where
+  pub tells : Told
+  pub locks : List ℕ
+  pub records : A
+
+-- this is told, and these tables are left
+abbrev pub telling : {A : Type 0} → Told → List ℕ → A → Effect A
+telling a t w = record { tells = a; locks = t; records = w }
+
+-- refused with k, and the tables t and w are as they were; or, with 0 for none, what is done
+unfoldable pub unless : {A : Type 0} → ℕ → List ℕ → A → Effect A → Effect A
+unless k t w done = cond (eqb k 0) done (telling (refuses k) t w)
+
+-- an entry told this and left these tables, whole
+pub record Does {A : Type 0} (e : Effect A) (told : Told) (t′ : List ℕ) (w′ : A) : Type 0 where
+  pub answer : told ≡ e .tells
+  pub locks : t′ ≡ e .locks
+  pub records : w′ ≡ e .records

@@ -1,0 +1,57 @@
+-- What the inner functions give and leave. No rule names these words.
+use Prim.Native.Nat.{ℕ}
+use mathlib.Core.Path.{_≡_}
+use mathlib.Core.Bool.{Bool, true, false, cond, not, _&&_}
+use mathlib.Core.List.{List}
+use Rattle.rows.specs.Numbers.{bitAt}
+use Rattle.rows.specs.Rows.{setRow}
+use Rattle.frames.specs.declared.Request.{Request}
+use Rattle.who.specs.declared.Station.{Station}
+use Rattle.who.specs.Records.{bytesOf}
+use Rattle.who.specs.Row.{stationIn}
+use Rattle.who.specs.Logins.{afterLogout}
+use Rattle.locks.specs.Good.{goodLocks}
+use Rattle.locks.specs.Table.{clearedTable}
+use Rattle.master.specs.declared.Answer.{Answer}
+use Rattle.master.specs.declared.Step.{Step}
+use Rattle.master.specs.declared.PolledRow.{PolledRow}
+use Rattle.master.specs.declared.Turned.{Turned}
+use Rattle.master.specs.declared.Turned.the-variants.{Refused, Turn}
+use Rattle.master.specs.Answers.{told, turnTold}
+use Rattle.master.specs.Effects.{unless, Does}
+use Rattle.master.specs.Frames.{loginEffect, requestEffect}
+use Rattle.master.specs.Polls.{turnRefusal, dueNow, stationTurn}
+
+-- a request; a login, which leaves any lock table as it is; a logout
+abbrev pub Performs : Request → ℕ → List ℕ → List ℕ → List ℕ → Answer → List ℕ → List ℕ → Type 0
+Performs q n s t w r = Does (requestEffect q n s t w) (told r)
+
+abbrev pub LogsIn : Request → ℕ → List ℕ → List ℕ → Answer → List ℕ → Type 0
+LogsIn q product s w r w′ = (t : List ℕ) → Does (loginEffect q product s t w) (told r) t w′
+
+pub record LogsOut (n : ℕ) (t w t′ w′ : List ℕ) : Type 0 where
+  pub locks : t′ ≡ clearedTable t n
+  pub records : w′ ≡ afterLogout w n
+
+-- the refusals of a turn without 12, and 12 alone
+unfoldable pub seatRefusal : Bool → (ℕ → Bool) → ℕ → ℕ
+seatRefusal good inside n = turnRefusal good inside n false true
+
+unfoldable pub early : Station → Bool → ℕ
+early s heard = cond (heard && not (dueNow s)) 12 0
+
+-- the refusal beside a good row with this word of who is logged in, for the record s
+unfoldable pub stepRefusal : ℕ → ℕ → Station → Bool → List ℕ → ℕ
+stepRefusal word n s heard t = turnRefusal (goodLocks (bitAt word) t) (bitAt word) n heard (dueNow s)
+
+-- the turn of one record, with refusal k
+abbrev pub Steps : ℕ → ℕ → Station → Bool → List ℕ → Step → List ℕ → Type 0
+Steps k n s heard t p t′ = Does (unless k t s (stationTurn n s heard t)) (turnTold (p .answer)) t′ (p .next)
+
+-- a turn is written back into the bytes that the row was read from, and a refusal is not
+unfoldable pub isTurn : Turned → Bool
+isTurn (Refused k) = false
+isTurn (Turn due out) = true
+
+unfoldable pub writtenBack : ℕ → PolledRow → List ℕ → List ℕ
+writtenBack n p w = cond (isTurn (p .answer)) (setRow 18 w n (bytesOf (stationIn (p .row) n))) w
