@@ -6,7 +6,7 @@ use Rattle.rows.specs.Numbers.{lowFirst, lowBytes}
 use Rattle.terms.specs.Strings.{stringAt, legal, key, sameString, normal}
 use Rattle.frames.specs.Table.{frameTable, lengthIn, frameLength, carriesAddress}
 use Rattle.frames.specs.Requests.{plain}
-use Rattle.frames.specs.Reading.{addressIn, namedIn, loginIn, stringRequest, requestIn}
+use Rattle.frames.specs.Reading.{refusalOf, addressIn, namedIn, loginIn, stringRequest, requestIn}
 use Rattle.site.specs.Layout.{users, userOffset, partitions, partitionOffset, nameAt, passwordAt, rowAt, spareAt}
 use Rattle.site.specs.Rules.{goodHeader, sameName, namedAt, nameAlone, tracks, sectors, ranged, numbered, partitionNumbered, numberAlone, meet, overlap, partitionsOverlap, sound, apart, goodPartition, goodSite}
 use Rattle.site.specs.Found.{userIs, hasUser, indexOfNumber}
@@ -18,7 +18,7 @@ use Rattle.locks.specs.Row.{owner, stringOf, isFree, rowOf, holds, freed}
 use Rattle.locks.specs.Table.{holdsAt, freeAt, ownerAt, heldAt, lowestFree, isHeld, isOwn, lockStatus, lockTable, unlocks as freesLock, unlockStatus, unlockTable, clearedTable}
 use Rattle.locks.specs.Good.{soundRow, soundAt, aloneAt, soundRows, goodLocks, freshLocks}
 use Rattle.master.specs.Tables.{goodTables}
-use Rattle.master.specs.Refusals.{unknown, misplaced, dtnSet, srcDiffers, placeRefusal, frameTests, frameRefusal, refusal}
+use Rattle.master.specs.Refusals.{unknown, misplaced, srcDiffers, placeRefusal, frameTests, frameRefusal, refusal}
 use Rattle.master.specs.Effects.{unless}
 use Rattle.master.specs.Frames.{placeTold, numberGiven, nameFound, loginEffect, effectOf, requestEffect, frameEffect}
 use Rattle.who.specs.Turns.{isDue, missesAfter, slowAfter, isOut}
@@ -27,5 +27,5 @@ use Rattle.examples.specs.Play.{played, said, allPlayed, allSaid}
 use Rattle.examples.specs.Marked.{partition, header, empty, one, two, reads, locks, unlocks, logsIn, string, used, fresh, silent, marked}
 
 pub marked-pass : allPlayed marked ≡ allSaid marked
-unfolding all any first sameAt same zeroAt zeros part put copies eachRow lowFirst lowBytes stringAt legal key sameString normal frameTable lengthIn frameLength carriesAddress plain addressIn namedIn loginIn stringRequest requestIn users userOffset partitions partitionOffset nameAt passwordAt rowAt spareAt goodHeader sameName namedAt nameAlone tracks sectors ranged numbered partitionNumbered numberAlone meet overlap partitionsOverlap sound apart goodPartition goodSite userIs hasUser indexOfNumber inside placeOn refused placedOn placedIn flag bytesOf stationOf goodCounts goodRecord goodNumber goodRecords loggedIn freeNumber lowestNumber loggedInAs afterLogin afterLogout freshRecords owner stringOf isFree rowOf holds freed holdsAt freeAt ownerAt heldAt lowestFree isHeld isOwn lockStatus lockTable freesLock unlockStatus unlockTable clearedTable soundRow soundAt aloneAt soundRows goodLocks freshLocks goodTables unknown misplaced dtnSet srcDiffers placeRefusal frameTests frameRefusal refusal placeTold numberGiven nameFound loginEffect effectOf requestEffect frameEffect unless isDue missesAfter slowAfter isOut turnRefusal dueNow outNow stationTurn stationAt pollRefusal pollEffect played said allPlayed allSaid partition header empty one two reads locks unlocks logsIn string used fresh silent marked
+unfolding all any first sameAt same zeroAt zeros part put copies eachRow lowFirst lowBytes stringAt legal key sameString normal frameTable lengthIn frameLength carriesAddress plain refusalOf addressIn namedIn loginIn stringRequest requestIn users userOffset partitions partitionOffset nameAt passwordAt rowAt spareAt goodHeader sameName namedAt nameAlone tracks sectors ranged numbered partitionNumbered numberAlone meet overlap partitionsOverlap sound apart goodPartition goodSite userIs hasUser indexOfNumber inside placeOn refused placedOn placedIn flag bytesOf stationOf goodCounts goodRecord goodNumber goodRecords loggedIn freeNumber lowestNumber loggedInAs afterLogin afterLogout freshRecords owner stringOf isFree rowOf holds freed holdsAt freeAt ownerAt heldAt lowestFree isHeld isOwn lockStatus lockTable freesLock unlockStatus unlockTable clearedTable soundRow soundAt aloneAt soundRows goodLocks freshLocks goodTables unknown misplaced srcDiffers placeRefusal frameTests frameRefusal refusal placeTold numberGiven nameFound loginEffect effectOf requestEffect frameEffect unless isDue missesAfter slowAfter isOut turnRefusal dueNow outNow stationTurn stationAt pollRefusal pollEffect played said allPlayed allSaid partition header empty one two reads locks unlocks logsIn string used fresh silent marked
 marked-pass = refl

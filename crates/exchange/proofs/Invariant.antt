@@ -32,7 +32,6 @@ use Rattle.exchange.proofs.Agreement.{agrees-still, same-agrees, lost-a
 use Rattle.exchange.proofs.OneNumber.{table, out-holds, no-mark, Enters, enters, turn-holds}
 use Rattle.exchange.proofs.Steps.{Inv, asks, lock-asked, unlock-asked, clear-asked, reply-taken, reply-inv}
 use Rattle.master.specs.Effects.{Effect}
-use Rattle.master.specs.Fresh.{sized}
 
 -- the tables are good after every run
 pub run-good : (h : Run) → goodTables (tables h .locks) (tables h .records) ≡ true

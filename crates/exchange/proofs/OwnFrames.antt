@@ -12,14 +12,14 @@ use Rattle.rows.proofs.BoolLaws.{by-test, by-eq, both}
 use Rattle.frames.specs.Table.{ACKNOWLEDGE, READ, WRITE, ASSIGN, LOCK, UNLOCK, CLEAR, LOGIN, LOGOUT, frameLength, carriesAddress}
 use Rattle.frames.specs.Requests.{plain}
 use Rattle.terms.specs.Strings.{stringAt}
-use Rattle.frames.specs.Reading.{code, namedIn, stringRequest, requestIn}
+use Rattle.frames.specs.Reading.{code, namedIn, stringRequest, requestIn, refusalOf}
 use Rattle.site.specs.Rules.{goodSite}
 use Rattle.who.specs.Logins.{loggedIn, afterLogout}
 use Rattle.who.proofs.WhoLaws.{good-is, logged-below}
 use Rattle.locks.specs.Table.{lockStatus, lockTable, unlockStatus, unlockTable, clearedTable}
 use Rattle.master.specs.Tables.{goodTables}
 use Rattle.master.specs.Answers.{refuses, answers, no-bytes, status-byte}
-use Rattle.master.specs.Refusals.{ANYBODY, unknown, misplaced, dtnSet, srcDiffers, placeRefusal, frameTests, frameRefusal, refusal}
+use Rattle.master.specs.Refusals.{ANYBODY, unknown, misplaced, srcDiffers, placeRefusal, frameTests, frameRefusal, refusal}
 use Rattle.master.proofs.Deeds.{records-good}
 use Rattle.station.specs.State.{waitOf, askedIn}
 use Rattle.station.specs.Good.{goodState}
@@ -27,7 +27,6 @@ use Rattle.station.specs.Asks.{frameAwaited, sendRefusal, sentOf, bufferAfter}
 use Rattle.exchange.specs.Following.{sideFrame, sent}
 use Rattle.master.specs.Effects.{Effect, telling, unless}
 use Rattle.master.specs.Frames.{effectOf, requestEffect, frameEffect}
-use Rattle.master.specs.Fresh.{sized}
 
 -- what `send` leaves is the frame awaited, or nothing where it is refused
 module _ (st b : List ℕ) where
@@ -115,7 +114,7 @@ module _ (n : ℕ) (f s t w : List ℕ) where
   -- of a station that is logged in, a whole frame that holds no address, no login and no logout is not refused in good tables with a good site file
   pub not-refused : goodTables t w ≡ true → goodSite s ≡ true → loggedIn w n ≡ true → (c : ℕ) → code f ≡ c → length f ≡ frameLength c → eqb (frameLength c) 0 ≡ false
       → carriesAddress c ≡ false → eqb c LOGIN ≡ false → eqb c LOGOUT ≡ false → refusal n f s t w ≡ 0
-  unfolding refusal frameRefusal frameTests unknown misplaced dtnSet srcDiffers placeRefusal
+  unfolding refusal frameRefusal frameTests refusalOf unknown misplaced srcDiffers placeRefusal
   not-refused good site in-now c e long some no-address no-login no-logout =
       let below = logged-below w (good-is w (records-good t w good) .sized) n in-now in
       let off = ne-eqb n ANYBODY (λ (q : n ≡ ANYBODY). omega arith) in
@@ -139,7 +138,7 @@ pub data Refused (t w : List ℕ) : Effect (List ℕ) → Type 0 where
   refuses-with : (k : ℕ) → Refused t w (telling (refuses k) t w)
 
 pub empty-refused : (n : ℕ) (s t w : List ℕ) → Refused t w (frameEffect n [] s t w)
-unfolding frameEffect unless refusal frameRefusal frameTests
+unfolding frameEffect unless refusal frameRefusal frameTests refusalOf
 empty-refused n s t w = by-test (goodTables t w)
     (λ g. by-test (goodSite s)
     (λ h. rw (g, h) (refuses-with 1))

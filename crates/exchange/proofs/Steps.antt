@@ -25,7 +25,6 @@ use Rattle.station.proofs.Keeps as keeps
 use Rattle.exchange.proofs.Settling.{pending, locking, Settles, unlock-pending}
 use Rattle.exchange.proofs.Agreement.{Agrees, agree-same, same-agrees, asked-agrees, lost-agrees, replied-same}
 use Rattle.exchange.proofs.Counting.{list-fits}
-use Rattle.master.specs.Fresh.{sized}
 
 -- k is logged in, the state is good, and both agree
 pub record Inv (k : ℕ) (t w st : List ℕ) : Type 0 where

@@ -8,7 +8,7 @@ use Rattle.rows.specs.Numbers.{lowFirst, lowBytes}
 use Rattle.terms.specs.Strings.{stringAt, legal, key, sameString, normal}
 use Rattle.frames.specs.Table.{frameTable, lengthIn, frameLength, carriesAddress}
 use Rattle.frames.specs.Requests.{plain}
-use Rattle.frames.specs.Reading.{addressIn, namedIn, loginIn, stringRequest, requestIn}
+use Rattle.frames.specs.Reading.{refusalOf, addressIn, namedIn, loginIn, stringRequest, requestIn}
 use Rattle.site.specs.Layout.{users, userOffset, partitions, partitionOffset, nameAt, passwordAt, rowAt, spareAt}
 use Rattle.site.specs.Rules.{goodHeader, sameName, namedAt, nameAlone, tracks, sectors, ranged, numbered, partitionNumbered, numberAlone, meet, overlap, partitionsOverlap, sound, apart, goodPartition, goodSite}
 use Rattle.site.specs.Found.{userIs, hasUser, indexOfNumber}
@@ -19,7 +19,7 @@ use Rattle.locks.specs.Row.{owner, stringOf, isFree, rowOf, holds, freed}
 use Rattle.locks.specs.Table.{holdsAt, freeAt, ownerAt, heldAt, lowestFree, isHeld, isOwn, lockStatus, lockTable, unlocks, unlockStatus, unlockTable, clearedTable}
 use Rattle.locks.specs.Good.{soundRow, soundAt, aloneAt, soundRows, goodLocks, freshLocks}
 use Rattle.master.specs.Tables.{goodTables}
-use Rattle.master.specs.Refusals.{unknown, misplaced, dtnSet, srcDiffers, placeRefusal, frameTests, frameRefusal, refusal}
+use Rattle.master.specs.Refusals.{unknown, misplaced, srcDiffers, placeRefusal, frameTests, frameRefusal, refusal}
 use Rattle.master.specs.Effects.{unless}
 use Rattle.master.specs.Frames.{placeTold, numberGiven, nameFound, loginEffect, effectOf, requestEffect, frameEffect}
 use Rattle.station.specs.State.{listOf, waitOf, placeString, unused, listedAt, isListed, placeOf, listed, added, struckAt, codeIn, askedIn}
@@ -32,7 +32,7 @@ use Rattle.exchange.specs.Promise.{lists}
 use Rattle.exchange.specs.Story.{A, B, site, login, logout, buffer, asked, replied, locksA, locksB, unlocksA, one-locks, one-holds, one-unlocks, one-free, one-locks-B, one-holds-B, one-clears, one-empty, two-locks, two-denied, two-again, two-holds, from, unlock, logins, one-has-it, two-has-it, one-has-none, one-leaves, answersIn, said}
 
 pub story-told : answersIn one-leaves ≡ said
-unfolding all any first sameAt same zeroAt zeros part put copies eachRow lowFirst lowBytes stringAt legal key sameString normal frameTable lengthIn frameLength carriesAddress plain addressIn namedIn loginIn stringRequest requestIn users userOffset partitions partitionOffset nameAt passwordAt rowAt spareAt goodHeader sameName namedAt nameAlone tracks sectors ranged numbered partitionNumbered numberAlone meet overlap partitionsOverlap sound apart goodPartition goodSite userIs hasUser indexOfNumber flag bytesOf stationOf goodCounts goodRecord goodNumber goodRecords loggedIn freeNumber lowestNumber loggedInAs afterLogin afterLogout freshRecords owner stringOf isFree rowOf holds freed holdsAt freeAt ownerAt heldAt lowestFree isHeld isOwn lockStatus lockTable unlocks unlockStatus unlockTable clearedTable soundRow soundAt aloneAt soundRows goodLocks freshLocks goodTables unknown misplaced dtnSet srcDiffers placeRefusal frameTests frameRefusal refusal placeTold numberGiven nameFound loginEffect effectOf requestEffect frameEffect unless listOf waitOf placeString unused listedAt isListed placeOf listed added struckAt codeIn askedIn goodPlace goodPlaceAt inFront alonePlace goodList goodWait goodState waits askRefusal struck awaited afterLock afterUnlock afterClear freshState frameAwaited sendRefusal sentOf bufferAfter fits grants carriesLength adds replyRefusal afterReply effect tables answerIn sent A B site login logout buffer asked replied locksA locksB unlocksA one-locks one-holds one-unlocks one-free one-locks-B one-holds-B one-clears one-empty two-locks two-denied two-again two-holds from unlock logins one-has-it two-has-it one-has-none one-leaves answersIn said
+unfolding all any first sameAt same zeroAt zeros part put copies eachRow lowFirst lowBytes stringAt legal key sameString normal frameTable lengthIn frameLength carriesAddress plain refusalOf addressIn namedIn loginIn stringRequest requestIn users userOffset partitions partitionOffset nameAt passwordAt rowAt spareAt goodHeader sameName namedAt nameAlone tracks sectors ranged numbered partitionNumbered numberAlone meet overlap partitionsOverlap sound apart goodPartition goodSite userIs hasUser indexOfNumber flag bytesOf stationOf goodCounts goodRecord goodNumber goodRecords loggedIn freeNumber lowestNumber loggedInAs afterLogin afterLogout freshRecords owner stringOf isFree rowOf holds freed holdsAt freeAt ownerAt heldAt lowestFree isHeld isOwn lockStatus lockTable unlocks unlockStatus unlockTable clearedTable soundRow soundAt aloneAt soundRows goodLocks freshLocks goodTables unknown misplaced srcDiffers placeRefusal frameTests frameRefusal refusal placeTold numberGiven nameFound loginEffect effectOf requestEffect frameEffect unless listOf waitOf placeString unused listedAt isListed placeOf listed added struckAt codeIn askedIn goodPlace goodPlaceAt inFront alonePlace goodList goodWait goodState waits askRefusal struck awaited afterLock afterUnlock afterClear freshState frameAwaited sendRefusal sentOf bufferAfter fits grants carriesLength adds replyRefusal afterReply effect tables answerIn sent A B site login logout buffer asked replied locksA locksB unlocksA one-locks one-holds one-unlocks one-free one-locks-B one-holds-B one-clears one-empty two-locks two-denied two-again two-holds from unlock logins one-has-it two-has-it one-has-none one-leaves answersIn said
 story-told = refl
 
 -- who lists "A" on the way: 1 after the reply 81, 2 not after 01, 1 no more after its unlock, and then 2; 1 lists "B", and after its

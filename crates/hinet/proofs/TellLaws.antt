@@ -6,7 +6,7 @@ use mathlib.Core.Path.{_≡_}
 use mathlib.Core.Bool.{Bool, true, false, cond, not, _&&_, _||_}
 use mathlib.Core.List.{List, [], _∷_}
 use lib.Dec.{eqb, ltb}
-use lib.ListN.{length, take, drop, getD}
+use lib.ListN.{take, drop, getD}
 use lib.Seq.{getD-drop}
 use borrow.Author.Tests.{ltb-true, ne-eqb}
 use Rattle.rows.proofs.BoolLaws.{by-test, by-eq, and-left}
@@ -20,8 +20,8 @@ use Rattle.terms.specs.Strings.{legal}
 use Rattle.frames.specs.declared.Request.{Request}
 use Rattle.frames.specs.declared.Command.the-variants.{Assign, Lock, Unlock}
 use Rattle.frames.specs.Requests.{plain}
-use Rattle.frames.specs.Table.{READ, WRITE, LOGIN, ASSIGN, LOCK, UNLOCK, CLEAR, LOGOUT, frameLength, carriesAddress}
-use Rattle.frames.specs.Reading.{code, addressIn, namedIn, loginIn, stringRequest, requestIn}
+use Rattle.frames.specs.Table.{READ, WRITE, LOGIN, ASSIGN, LOCK, UNLOCK, CLEAR, LOGOUT, carriesAddress}
+use Rattle.frames.specs.Reading.{code, addressIn, namedIn, loginIn, stringRequest, requestIn, refusalOf}
 use Rattle.site.specs.declared.PartitionRow.{PartitionRow}
 use Rattle.site.specs.Layout.{partitions, partitionsFrom, rowAt, partitionRow, partitionPassword}
 use Rattle.site.specs.Rules.{ranged, goodSite}
@@ -32,7 +32,7 @@ use Rattle.site.proofs.PlaceLaws.{place-ends}
 use Rattle.who.specs.Good.{numbers}
 use Rattle.who.specs.Logins.{lowestFree, loggedIn}
 use Rattle.locks.specs.Table.{rowCount, freeAt, isHeld, isOwn, lockStatus, unlocks, unlockStatus}
-use Rattle.master.specs.Refusals.{ANYBODY, unknown, misplaced, dtnSet, srcDiffers, placeRefusal, frameTests, frameRefusal, refusal}
+use Rattle.master.specs.Refusals.{ANYBODY, unknown, misplaced, srcDiffers, placeRefusal, frameTests, frameRefusal, refusal}
 use Rattle.master.specs.Tables.{goodTables}
 use Rattle.master.specs.Frames.{placeTold, rowAnswer, assignable, assignAnswer, numberGiven, loginEffect, effectOf, requestEffect, frameEffect}
 use Rattle.master.specs.Polls.{pollRefusal, turnRefusal, dueNow, outNow, stationTurn, pollEffect, stationAt}
@@ -137,12 +137,12 @@ module _ (n : ℕ) (f s t w : List ℕ) where
   refusal-small =
       either (not (goodTables t w)) 11 _ (omega arith)
       (either (not (goodSite s)) 10 _ (omega arith)
-      (either (eqb (length f) 0) 1 _ (omega arith)
+      (either (eqb (refusalOf f) 1) 1 _ (omega arith)
       (either (unknown (loggedIn w) n) 2 _ (omega arith)
-      (either (eqb (frameLength (code f)) 0) 3 _ (omega arith)
-      (either (not (eqb (length f) (frameLength (code f)))) 4 _ (omega arith)
+      (either (eqb (refusalOf f) 3) 3 _ (omega arith)
+      (either (eqb (refusalOf f) 4) 4 _ (omega arith)
       (either (misplaced n (code f)) 5 _ (omega arith)
-      (either (dtnSet f) 6 _ (omega arith)
+      (either (eqb (refusalOf f) 6) 6 _ (omega arith)
       (either (srcDiffers n f) 7 _ (omega arith)
       (either (carriesAddress (code f)) (placedIn s (addressIn f) .refusal) 0 (placed-small s (addressIn f)) (omega arith))))))))))
 

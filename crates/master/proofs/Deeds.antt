@@ -17,7 +17,7 @@ use Rattle.frames.specs.Requests.{plain}
 use Rattle.terms.specs.Strings.{stringAt}
 use Rattle.frames.specs.Reading.{code, namedIn, loginIn, stringRequest, requestIn}
 use Rattle.frames.proofs.TableLaws.{Code, acknowledge, read, write, login, assign, lock, unlock, clear, logout, code-is}
-use Rattle.frames.proofs.ReadLaws.{well-long}
+use Rattle.frames.proofs.ReadLaws.{well-is, well-long}
 use Rattle.site.specs.Rules.{goodSite}
 use Rattle.site.specs.declared.Placed.{Placed}
 use Rattle.who.specs.Good.{goodRecords}
@@ -29,7 +29,7 @@ use Rattle.master.specs.Tables.{goodTables}
 use Rattle.master.specs.Answers.{Told, refuses, answers, Answered, no-bytes, status-byte, assign-bytes, place-at, login-as, turn-was, frame-of}
 use Rattle.master.specs.Refusals.{ANYBODY, misplaced, placeRefusal, frameTests, frameRefusal, refusal}
 use Rattle.master.specs.Frames.{placeTold, rowAnswer, assignable, assignAnswer, numberGiven, loginEffect, effectOf, requestEffect, frameEffect}
-use Rattle.master.proofs.RefusalLaws.{Passed, passed, tests-stop, reads-well, seat-in}
+use Rattle.master.proofs.RefusalLaws.{Passed, passed, tests-stop, seat-in}
 use Rattle.master.specs.Effects.{Effect, telling, unless}
 
 -- good tables, part by part
@@ -97,7 +97,7 @@ module _ (n : ℕ) (f s t w : List ℕ) where
     sized = good-is w (records-good t w (h .tables)) .sized
 
     long : (k : ℕ) → code f ≡ k → length f ≡ frameLength k
-    long k e = well-long f k (reads-well n f w (h .tests)) e
+    long k e = well-long f k (h .tests .reads) e
 
     inside : (k : ℕ) → code f ≡ k → eqb k LOGIN ≡ false → loggedIn w n ≡ true
     inside k e ne = seat-in n f w sized (h .tests) (rw e ne)
@@ -137,5 +137,5 @@ module _ (n : ℕ) (f s t w : List ℕ) where
   pub deed : Deed (frameEffect n f s t w)
   unfolding frameEffect unless
   deed = by-eq (refusal n f s t w) 0
-      (λ z. rw z (done (heard z) (code-is (code f) (heard z .tests .known))))
+      (λ z. rw z (done (heard z) (code-is (code f) (well-is f (heard z .tests .reads) .known))))
       (λ ne. rw (ne-eqb (refusal n f s t w) 0 ne) (refused (refusal n f s t w) ne))

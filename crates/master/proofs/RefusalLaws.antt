@@ -6,14 +6,13 @@ use mathlib.Core.Bool.{Bool, true, false, cond, not, _&&_, _||_}
 use mathlib.Core.List.{List}
 use lib.Dec.{eqb}
 use lib.ListN.{length, getD}
-use borrow.Author.Tests.{eqb-true, eqb-false, eq-eqb, ne-eqb, not-false}
+use borrow.Author.Tests.{eq-eqb, ne-eqb, not-false}
 use Rattle.rows.proofs.BoolLaws.{by-eq, both, or-rest}
 use Rattle.frames.specs.Table.{LOGIN, LOGOUT, frameLength, carriesAddress}
 use Rattle.frames.specs.Reading.{code, refusalOf}
-use Rattle.frames.proofs.ReadLaws.{is-well}
 use Rattle.who.specs.Logins.{loggedIn}
 use Rattle.who.proofs.WhoLaws.{logged-below}
-use Rattle.master.specs.Refusals.{ANYBODY, unknown, misplaced, dtnSet, srcDiffers, frameTests}
+use Rattle.master.specs.Refusals.{ANYBODY, unknown, misplaced, srcDiffers, frameTests}
 
 -- a row of seven tests and what comes last
 tests : Bool → Bool → Bool → Bool → Bool → Bool → Bool → ℕ → ℕ
@@ -51,54 +50,49 @@ one-holds false false false false false true h x z = refl
 one-holds false false false false false false true x z = refl
 one-holds false false false false false false false x z = absurd (z refl)
 
+-- a frame that is not refused with 1 is not empty
+pub not-empty : (f : List ℕ) → (refusalOf f ≡ 1 → ⊥) → 0 < length f
+unfolding refusalOf
+not-empty f ne = by-eq (length f) 0 (λ e. absurd (ne (rw e))) (λ z. omega arith)
+
+-- a frame that reading refuses with none of its four numbers reads well
+pub reads-well : (f : List ℕ) → eqb (refusalOf f) 1 ≡ false → eqb (refusalOf f) 3 ≡ false → eqb (refusalOf f) 4 ≡ false → eqb (refusalOf f) 6 ≡ false → refusalOf f ≡ 0
+unfolding refusalOf
+reads-well f = go (eqb (length f) 0) (eqb (frameLength (code f)) 0) (not (eqb (length f) (frameLength (code f)))) (carriesAddress (code f) && not (eqb (getD f 1 0) 0))
+  where
+    number : Bool → Bool → Bool → Bool → ℕ
+    number a b c d = cond a 1 (cond b 3 (cond c 4 (cond d 6 0)))
+
+    go : (a b c d : Bool) → eqb (number a b c d) 1 ≡ false → eqb (number a b c d) 3 ≡ false → eqb (number a b c d) 4 ≡ false → eqb (number a b c d) 6 ≡ false → number a b c d ≡ 0
+    go true b c d p q r s = both refl p
+    go false true c d p q r s = both refl q
+    go false false true d p q r s = both refl r
+    go false false false true p q r s = both refl s
+    go false false false false p q r s = refl
+
 module _ (n : ℕ) (f w : List ℕ) where
   -- what the tests of a frame that none of 1 to 7 refuses say
   pub record Passed : Type 0 where
-    pub some : length f ≡ 0 → ⊥
+    pub reads : refusalOf f ≡ 0
     pub number : unknown (loggedIn w) n ≡ false
-    pub known : frameLength (code f) ≡ 0 → ⊥
-    pub long : length f ≡ frameLength (code f)
     pub seat : misplaced n (code f) ≡ false
-    pub dtn : dtnSet f ≡ false
     pub src : srcDiffers n f ≡ false
 
   pub passed : frameTests n f w 0 ≡ 0 → Passed
   unfolding frameTests tests
   passed z =
-      let t = none-holds (eqb (length f) 0) (unknown (loggedIn w) n) (eqb (frameLength (code f)) 0) (not (eqb (length f) (frameLength (code f)))) (misplaced n (code f)) (dtnSet f) (srcDiffers n f) z in
-      record {
-        some = eqb-false _ _ (t .no-1);
-        number = t .no-2;
-        known = eqb-false _ _ (t .no-3);
-        long = eqb-true _ _ (not-false _ (t .no-4));
-        seat = t .no-5;
-        dtn = t .no-6;
-        src = t .no-7;
-      }
+      let t = none-holds (eqb (refusalOf f) 1) (unknown (loggedIn w) n) (eqb (refusalOf f) 3) (eqb (refusalOf f) 4) (misplaced n (code f)) (eqb (refusalOf f) 6) (srcDiffers n f) z in
+      record { reads = reads-well f (t .no-1) (t .no-3) (t .no-4) (t .no-6); number = t .no-2; seat = t .no-5; src = t .no-7 }
 
   -- then what comes last decides
   pub tests-pass : (x : ℕ) → Passed → frameTests n f w x ≡ x
   unfolding frameTests
-  tests-pass x p =
-      rw (ne-eqb (length f) 0 (p .some), p .number, ne-eqb (frameLength (code f)) 0 (p .known), eq-eqb (length f) (frameLength (code f)) (p .long), p .seat, p .dtn, p .src)
+  tests-pass x p = rw (p .reads, p .number, p .seat, p .src)
 
   -- and where one of them holds, what comes last does not matter
   pub tests-stop : (x : ℕ) → (frameTests n f w 0 ≡ 0 → ⊥) → frameTests n f w x ≡ frameTests n f w 0
   unfolding frameTests tests
-  tests-stop x z = one-holds (eqb (length f) 0) (unknown (loggedIn w) n) (eqb (frameLength (code f)) 0) (not (eqb (length f) (frameLength (code f)))) (misplaced n (code f)) (dtnSet f) (srcDiffers n f) x z
-
-  -- such a frame reads well
-  pub reads-well : Passed → refusalOf f ≡ 0
-  unfolding dtnSet
-  reads-well p = is-well f (record {
-    known = p .known;
-    long = p .long;
-    dtn = λ y. eqb-true _ _ (second (carriesAddress (code f)) (eqb (getD f 1 0) 0) y (p .dtn));
-  })
-    where
-      second : (a b : Bool) → a ≡ true → (a && not b) ≡ false → b ≡ true
-      second true b t h = not-false b h
-      second false b t h = both t refl
+  tests-stop x z = one-holds (eqb (refusalOf f) 1) (unknown (loggedIn w) n) (eqb (refusalOf f) 3) (eqb (refusalOf f) 4) (misplaced n (code f)) (eqb (refusalOf f) 6) (srcDiffers n f) x z
 
   -- the number is known, and only a login is served at 253
   module _ (sized : length w ≡ 1152) (p : Passed) where

@@ -3,9 +3,9 @@ use Prim.Native.Nat.{ℕ}
 use mathlib.Core.Bool.{Bool, cond, not, _&&_, _||_}
 use mathlib.Core.List.{List}
 use lib.Dec.{eqb}
-use lib.ListN.{length, getD}
-use Rattle.frames.specs.Table.{LOGIN, LOGOUT, frameLength, carriesAddress}
-use Rattle.frames.specs.Reading.{code, addressIn}
+use lib.ListN.{getD}
+use Rattle.frames.specs.Table.{LOGIN, LOGOUT, carriesAddress}
+use Rattle.frames.specs.Reading.{code, refusalOf, addressIn}
 use Rattle.site.specs.Rules.{goodSite}
 use Rattle.site.specs.Places.{placedIn}
 use Rattle.who.specs.Logins.{loggedIn}
@@ -23,10 +23,6 @@ unknown inside n = not (eqb n ANYBODY || inside n)
 unfoldable pub misplaced : ℕ → ℕ → Bool
 misplaced n c = cond (eqb c LOGIN) (not (eqb n ANYBODY)) (eqb n ANYBODY || (eqb c LOGOUT && eqb n 0))
 
--- 6: dtn is not 0
-unfoldable pub dtnSet : List ℕ → Bool
-dtnSet f = carriesAddress (code f) && not (eqb (getD f 1 0) 0)
-
 -- 7: src differs from the number polled; it stands after dtn, and in a logout after the code
 unfoldable pub srcDiffers : ℕ → List ℕ → Bool
 srcDiffers n f =
@@ -37,15 +33,15 @@ srcDiffers n f =
 unfoldable pub placeRefusal : List ℕ → List ℕ → ℕ
 placeRefusal f s = cond (carriesAddress (code f)) (placedIn s (addressIn f) .refusal) 0
 
--- 1 to 7 in this order, and then what `last` says
+-- 1 to 7 in this order, and then what `last` says; 1, 3, 4 and 6 are what reading the frame refuses
 unfoldable pub frameTests : ℕ → List ℕ → List ℕ → ℕ → ℕ
 frameTests n f w last =
-    cond (eqb (length f) 0) 1
+    cond (eqb (refusalOf f) 1) 1
     (cond (unknown (loggedIn w) n) 2
-    (cond (eqb (frameLength (code f)) 0) 3
-    (cond (not (eqb (length f) (frameLength (code f)))) 4
+    (cond (eqb (refusalOf f) 3) 3
+    (cond (eqb (refusalOf f) 4) 4
     (cond (misplaced n (code f)) 5
-    (cond (dtnSet f) 6
+    (cond (eqb (refusalOf f) 6) 6
     (cond (srcDiffers n f) 7
     last))))))
 

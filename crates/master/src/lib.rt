@@ -85,11 +85,11 @@ pub fn act(number: u32, frame: &[u8], site: &[u8], locks: &mut [u8], records: &m
     requires { ⌜ goodSite (now site) ≡ true ⌝ }
     ensures { λ r. ⌜ Serves number (now (frame .entry)) (now (site .entry)) (now (locks .entry)) (now (records .entry)) r (now (locks .exit)) (now (records .exit)) ⌝ }
 {
-    let refusal = refusals::first_of(number, frame, records);
+    let reading = frames::read(frame);
+    let refusal = refusals::first_of(number, reading.refusal, frame, records);
     if refusal != 0 {
         return Answer::Refused(refusal);
     }
-    let reading = frames::read(frame);
     let request = reading.request;
     commands::perform(number as u8, request, site, locks, records)
 }

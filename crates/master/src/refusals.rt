@@ -1,12 +1,9 @@
 // The tests of a frame, 1 to 7, in their order.
 use frames::code;
 ghost use mathlib.Core.Path.{_≡_};
-ghost use mathlib.Core.Bool.{cond};
-ghost use lib.ListN.{length};
 ghost use Rattle.who.specs.Logins.{loggedIn};
-ghost use Rattle.frames.specs.Table.{frameLength};
-ghost use Rattle.frames.specs.Reading.{code as codeOf};
-ghost use Rattle.master.specs.Refusals.{unknown, misplaced, dtnSet, srcDiffers, frameTests};
+ghost use Rattle.frames.specs.Reading.{refusalOf};
+ghost use Rattle.master.specs.Refusals.{unknown, misplaced, srcDiffers, frameTests};
 
 // Where a station without a number is polled.
 pub const ANYBODY: u32 = 253;
@@ -42,44 +39,43 @@ fn wide(b: u8) -> u32
     b as u32
 }
 
-// The fields of a frame that has the length of the table: 6 or 7.
-fn field_refusal(number: u32, frame: &[u8]) -> u8
-    requires { ⌜ (length (now frame) ≡ frameLength (codeOf (now frame))) × (frameLength (codeOf (now frame)) ≡ 0 → ⊥) ⌝ }
-    ensures { λ r. ⌜ r ≡ cond (dtnSet (now (frame .entry))) 6 (cond (srcDiffers number (now (frame .entry))) 7 0) ⌝ }
+// src differs from the number polled, in a frame that reads well.
+fn src_differs(number: u32, frame: &[u8]) -> bool
+    requires { ⌜ refusalOf (now frame) ≡ 0 ⌝ }
+    ensures { λ r. ⌜ r ≡ srcDiffers number (now (frame .entry)) ⌝ }
 {
     let code = frame[0];
     if code::has_address(code) {
-        if frame[1] != 0 {
-            return 6;
-        }
-        return if wide(frame[2]) == number { 0 } else { 7 };
+        return wide(frame[2]) != number;
     }
     if code != code::LOGOUT {
-        return 0;
+        return false;
     }
-    if wide(frame[1]) == number { 0 } else { 7 }
+    wide(frame[1]) != number
 }
 
-// The first of 1 to 7 that holds, or 0.
-pub fn first_of(number: u32, frame: &[u8], records: &[u8]) -> u8
+// The first of 1 to 7 that holds, or 0. `read` is what reading the frame refuses: 1, 3, 4 or 6, or 0.
+pub fn first_of(number: u32, read: u8, frame: &[u8], records: &[u8]) -> u8
+    requires { ⌜ read ≡ refusalOf (now frame) ⌝ }
     ensures { λ r. ⌜ r ≡ frameTests number (now (frame .entry)) (now (records .entry)) 0 ⌝ }
 {
-    if frame.len() == 0 {
+    if read == 1 {
         return 1;
     }
     if is_unknown(number, records) {
         return 2;
     }
-    let code = frame[0];
-    let n = code::frame_length(code);
-    if n == 0 {
+    if read == 3 {
         return 3;
     }
-    if frame.len() != n {
+    if read == 4 {
         return 4;
     }
-    if is_misplaced(number, code) {
+    if is_misplaced(number, frame[0]) {
         return 5;
     }
-    field_refusal(number, frame)
+    if read == 6 {
+        return 6;
+    }
+    if src_differs(number, frame) { 7 } else { 0 }
 }
