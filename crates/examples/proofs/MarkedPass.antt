@@ -1,6 +1,6 @@
 -- The marked examples come out as 01 says, by computing.
 use mathlib.Core.Path.{_≡_, refl}
-use Rattle.rows.specs.Words.{all, any, first, sameAt, same, zeroAt, zeros}
+use Rattle.rows.specs.Words.{all, any, first, build, sameAt, same, zeroAt, zeros}
 use Rattle.rows.specs.Rows.{part, put, copies, eachRow}
 use Rattle.rows.specs.Numbers.{lowFirst, lowBytes}
 use Rattle.terms.specs.Strings.{stringAt, legal, key, sameString, normal}
@@ -11,8 +11,8 @@ use Rattle.site.specs.Layout.{users, userOffset, partitions, partitionOffset, n
 use Rattle.site.specs.Rules.{goodHeader, sameName, namedAt, nameAlone, tracks, sectors, ranged, numbered, partitionNumbered, numberAlone, meet, overlap, partitionsOverlap, sound, apart, goodPartition, goodSite}
 use Rattle.site.specs.Found.{userIs, hasUser, indexOfNumber}
 use Rattle.site.specs.Places.{inside, placeOn, refused, placedOn, placedIn}
-use Rattle.who.specs.Records.{flag, bytesOf, stationOf}
-use Rattle.who.specs.Good.{goodCounts, goodRecord, goodAt as goodNumber, goodRecords}
+use Rattle.who.specs.Records.{flag, bytesOf, stationOf, flagged}
+use Rattle.who.specs.Good.{goodCounts, plain as plainStation, goodStation, goodFrom, goodRow, isRow, stationsOf, goodRecords}
 use Rattle.who.specs.Logins.{loggedIn, freeNumber, lowestFree as lowestNumber, loggedInAs, afterLogin, afterLogout, freshRecords}
 use Rattle.locks.specs.Row.{owner, stringOf, isFree, rowOf, holds, freed}
 use Rattle.locks.specs.Table.{holdsAt, freeAt, ownerAt, heldAt, lowestFree, isHeld, isOwn, lockStatus, lockTable, unlocks as freesLock, unlockStatus, unlockTable, clearedTable}
@@ -27,5 +27,5 @@ use Rattle.examples.specs.Play.{played, said, allPlayed, allSaid}
 use Rattle.examples.specs.Marked.{partition, header, empty, one, two, reads, locks, unlocks, logsIn, string, used, fresh, silent, marked}
 
 pub marked-pass : allPlayed marked ≡ allSaid marked
-unfolding all any first sameAt same zeroAt zeros part put copies eachRow lowFirst lowBytes stringAt legal key sameString normal frameTable lengthIn frameLength carriesAddress plain refusalOf addressIn namedIn loginIn stringRequest requestIn users userOffset partitions partitionOffset nameAt passwordAt rowAt spareAt goodHeader sameName namedAt nameAlone tracks sectors ranged numbered partitionNumbered numberAlone meet overlap partitionsOverlap sound apart goodPartition goodSite userIs hasUser indexOfNumber inside placeOn refused placedOn placedIn flag bytesOf stationOf goodCounts goodRecord goodNumber goodRecords loggedIn freeNumber lowestNumber loggedInAs afterLogin afterLogout freshRecords owner stringOf isFree rowOf holds freed holdsAt freeAt ownerAt heldAt lowestFree isHeld isOwn lockStatus lockTable freesLock unlockStatus unlockTable clearedTable soundRow soundAt aloneAt soundRows goodLocks freshLocks goodTables unknown misplaced srcDiffers placeRefusal frameTests frameRefusal refusal placeTold numberGiven nameFound loginEffect effectOf requestEffect frameEffect unless isDue missesAfter slowAfter isOut turnRefusal dueNow outNow stationTurn stationAt pollRefusal pollEffect played said allPlayed allSaid partition header empty one two reads locks unlocks logsIn string used fresh silent marked
+unfolding all any first build sameAt same zeroAt zeros part put copies eachRow lowFirst lowBytes stringAt legal key sameString normal frameTable lengthIn frameLength carriesAddress plain refusalOf addressIn namedIn loginIn stringRequest requestIn users userOffset partitions partitionOffset nameAt passwordAt rowAt spareAt goodHeader sameName namedAt nameAlone tracks sectors ranged numbered partitionNumbered numberAlone meet overlap partitionsOverlap sound apart goodPartition goodSite userIs hasUser indexOfNumber inside placeOn refused placedOn placedIn flag bytesOf stationOf flagged goodCounts plainStation goodStation goodFrom goodRow isRow stationsOf goodRecords loggedIn freeNumber lowestNumber loggedInAs afterLogin afterLogout freshRecords owner stringOf isFree rowOf holds freed holdsAt freeAt ownerAt heldAt lowestFree isHeld isOwn lockStatus lockTable freesLock unlockStatus unlockTable clearedTable soundRow soundAt aloneAt soundRows goodLocks freshLocks goodTables unknown misplaced srcDiffers placeRefusal frameTests frameRefusal refusal placeTold numberGiven nameFound loginEffect effectOf requestEffect frameEffect unless isDue missesAfter slowAfter isOut turnRefusal dueNow outNow stationTurn stationAt pollRefusal pollEffect played said allPlayed allSaid partition header empty one two reads locks unlocks logsIn string used fresh silent marked
 marked-pass = refl

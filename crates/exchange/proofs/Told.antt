@@ -2,7 +2,7 @@
 use mathlib.Core.Path.{_≡_, refl}
 use mathlib.Core.Bool.{true, false}
 use mathlib.Core.List.{[], _∷_}
-use Rattle.rows.specs.Words.{all, any, first, sameAt, same, zeroAt, zeros}
+use Rattle.rows.specs.Words.{all, any, first, build, sameAt, same, zeroAt, zeros}
 use Rattle.rows.specs.Rows.{part, put, copies, eachRow}
 use Rattle.rows.specs.Numbers.{lowFirst, lowBytes}
 use Rattle.terms.specs.Strings.{stringAt, legal, key, sameString, normal}
@@ -12,8 +12,8 @@ use Rattle.frames.specs.Reading.{refusalOf, addressIn, namedIn, loginIn, string
 use Rattle.site.specs.Layout.{users, userOffset, partitions, partitionOffset, nameAt, passwordAt, rowAt, spareAt}
 use Rattle.site.specs.Rules.{goodHeader, sameName, namedAt, nameAlone, tracks, sectors, ranged, numbered, partitionNumbered, numberAlone, meet, overlap, partitionsOverlap, sound, apart, goodPartition, goodSite}
 use Rattle.site.specs.Found.{userIs, hasUser, indexOfNumber}
-use Rattle.who.specs.Records.{flag, bytesOf, stationOf}
-use Rattle.who.specs.Good.{goodCounts, goodRecord, goodAt as goodNumber, goodRecords}
+use Rattle.who.specs.Records.{flag, bytesOf, stationOf, flagged}
+use Rattle.who.specs.Good.{goodCounts, plain as plainStation, goodStation, goodFrom, goodRow, isRow, stationsOf, goodRecords}
 use Rattle.who.specs.Logins.{loggedIn, freeNumber, lowestFree as lowestNumber, loggedInAs, afterLogin, afterLogout, freshRecords}
 use Rattle.locks.specs.Row.{owner, stringOf, isFree, rowOf, holds, freed}
 use Rattle.locks.specs.Table.{holdsAt, freeAt, ownerAt, heldAt, lowestFree, isHeld, isOwn, lockStatus, lockTable, unlocks, unlockStatus, unlockTable, clearedTable}
@@ -32,7 +32,7 @@ use Rattle.exchange.specs.Promise.{lists}
 use Rattle.exchange.specs.Story.{A, B, site, login, logout, buffer, asked, replied, locksA, locksB, unlocksA, one-locks, one-holds, one-unlocks, one-free, one-locks-B, one-holds-B, one-clears, one-empty, two-locks, two-denied, two-again, two-holds, from, unlock, logins, one-has-it, two-has-it, one-has-none, one-leaves, answersIn, said}
 
 pub story-told : answersIn one-leaves ≡ said
-unfolding all any first sameAt same zeroAt zeros part put copies eachRow lowFirst lowBytes stringAt legal key sameString normal frameTable lengthIn frameLength carriesAddress plain refusalOf addressIn namedIn loginIn stringRequest requestIn users userOffset partitions partitionOffset nameAt passwordAt rowAt spareAt goodHeader sameName namedAt nameAlone tracks sectors ranged numbered partitionNumbered numberAlone meet overlap partitionsOverlap sound apart goodPartition goodSite userIs hasUser indexOfNumber flag bytesOf stationOf goodCounts goodRecord goodNumber goodRecords loggedIn freeNumber lowestNumber loggedInAs afterLogin afterLogout freshRecords owner stringOf isFree rowOf holds freed holdsAt freeAt ownerAt heldAt lowestFree isHeld isOwn lockStatus lockTable unlocks unlockStatus unlockTable clearedTable soundRow soundAt aloneAt soundRows goodLocks freshLocks goodTables unknown misplaced srcDiffers placeRefusal frameTests frameRefusal refusal placeTold numberGiven nameFound loginEffect effectOf requestEffect frameEffect unless listOf waitOf placeString unused listedAt isListed placeOf listed added struckAt codeIn askedIn goodPlace goodPlaceAt inFront alonePlace goodList goodWait goodState waits askRefusal struck awaited afterLock afterUnlock afterClear freshState frameAwaited sendRefusal sentOf bufferAfter fits grants carriesLength adds replyRefusal afterReply effect tables answerIn sent A B site login logout buffer asked replied locksA locksB unlocksA one-locks one-holds one-unlocks one-free one-locks-B one-holds-B one-clears one-empty two-locks two-denied two-again two-holds from unlock logins one-has-it two-has-it one-has-none one-leaves answersIn said
+unfolding all any first build sameAt same zeroAt zeros part put copies eachRow lowFirst lowBytes stringAt legal key sameString normal frameTable lengthIn frameLength carriesAddress plain refusalOf addressIn namedIn loginIn stringRequest requestIn users userOffset partitions partitionOffset nameAt passwordAt rowAt spareAt goodHeader sameName namedAt nameAlone tracks sectors ranged numbered partitionNumbered numberAlone meet overlap partitionsOverlap sound apart goodPartition goodSite userIs hasUser indexOfNumber flag bytesOf stationOf flagged goodCounts plainStation goodStation goodFrom goodRow isRow stationsOf goodRecords loggedIn freeNumber lowestNumber loggedInAs afterLogin afterLogout freshRecords owner stringOf isFree rowOf holds freed holdsAt freeAt ownerAt heldAt lowestFree isHeld isOwn lockStatus lockTable unlocks unlockStatus unlockTable clearedTable soundRow soundAt aloneAt soundRows goodLocks freshLocks goodTables unknown misplaced srcDiffers placeRefusal frameTests frameRefusal refusal placeTold numberGiven nameFound loginEffect effectOf requestEffect frameEffect unless listOf waitOf placeString unused listedAt isListed placeOf listed added struckAt codeIn askedIn goodPlace goodPlaceAt inFront alonePlace goodList goodWait goodState waits askRefusal struck awaited afterLock afterUnlock afterClear freshState frameAwaited sendRefusal sentOf bufferAfter fits grants carriesLength adds replyRefusal afterReply effect tables answerIn sent A B site login logout buffer asked replied locksA locksB unlocksA one-locks one-holds one-unlocks one-free one-locks-B one-holds-B one-clears one-empty two-locks two-denied two-again two-holds from unlock logins one-has-it two-has-it one-has-none one-leaves answersIn said
 story-told = refl
 
 -- who lists "A" on the way: 1 after the reply 81, 2 not after 01, 1 no more after its unlock, and then 2; 1 lists "B", and after its

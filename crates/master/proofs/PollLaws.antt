@@ -7,11 +7,11 @@ use mathlib.Core.List.{List}
 use lib.Dec.{eqb}
 use borrow.Author.Tests.{eqb-false, not-false}
 use Rattle.rows.proofs.BoolLaws.{both, or-rest}
-use Rattle.rows.specs.Rows.{row, setRow}
-use Rattle.who.specs.Records.{stationOf, bytesOf}
+use Rattle.rows.specs.Rows.{setRow}
+use Rattle.who.specs.Records.{bytesOf}
 use Rattle.who.specs.Good.{goodCounts, numbers}
 use Rattle.who.specs.Logins.{loggedIn}
-use Rattle.who.proofs.RecordLaws.{is-counts, sound-is}
+use Rattle.who.proofs.RecordLaws.{station-counts}
 use Rattle.who.proofs.WhoLaws.{good-is, logged-below}
 use Rattle.master.specs.declared.Turned.the-variants.{Refused}
 use Rattle.master.specs.Tables.{goodTables}
@@ -74,5 +74,5 @@ module _ (n : ℕ) (t w : List ℕ) (good : goodTables t w ≡ true) (in-now : l
   polled-below = logged-below w (good-is w (records-good t w good) .sized) n in-now
 
   pub polled-counts : goodCounts (stationAt w n .misses) (stationAt w n .slow) ≡ true
-  unfolding stationAt stationOf
-  polled-counts = is-counts _ _ (sound-is (row 18 w n) (good-is w (records-good t w good) .each n polled-below) .counts)
+  unfolding stationAt
+  polled-counts = station-counts n _ (good-is w (records-good t w good) .each n polled-below .rules)

@@ -14,8 +14,9 @@ use Rattle.rows.proofs.NumberLaws.{bit-past}
 use Rattle.rows.specs.Numbers.{bitAt}
 use Rattle.who.specs.declared.Station.{Station}
 use Rattle.who.specs.declared.Turn.{Turn}
-use Rattle.who.specs.Good.{numbers}
-use Rattle.who.specs.Row.{vacant, absent, stationIn, isIn, goodRow, wordOf, rollOf}
+use Rattle.who.specs.Good.{numbers, goodRow}
+use Rattle.who.specs.Row.{vacant, absent, stationIn, isIn}
+use Rattle.who.specs.Inner.{wordOf, rollOf}
 use Rattle.who.specs.Turns.{turnOf}
 use Rattle.who.proofs.RowLaws.{good-is, word-in, in-past}
 use Rattle.locks.specs.Good.{locks, goodLocks}

@@ -14,12 +14,12 @@ use Rattle.rows.specs.Rows.{part, row}
 use Rattle.rows.specs.Numbers.{lowFirst}
 use Rattle.who.specs.declared.Station.{Station}
 use Rattle.who.specs.Records.{stationOf}
-use Rattle.who.specs.Good.{numbers}
+use Rattle.who.specs.Good.{numbers, goodRow, isRow, stationsOf, goodRecords}
 use Rattle.who.specs.Logins.{loggedIn}
-use Rattle.who.specs.Row.{absent, stationIn, isIn, goodRow, bytesOfRow, stationsOf, isRow}
-use Rattle.who.proofs.RowLaws.{row-is, row-good, no-row, length-stations, station-read, stations-logged}
+use Rattle.who.specs.Row.{absent, stationIn, isIn, bytesOfRow}
+use Rattle.who.proofs.RowLaws.{row-is, length-stations, station-read}
 use Rattle.who.proofs.RowBytes.{Long, LongRow, TypedRow, length-row-bytes, stations-again, row-stands, put-same, bytes-put}
-use Rattle.who.proofs.WhoLaws.{logged-below}
+use Rattle.who.proofs.WhoLaws.{logged-below, stations-logged}
 use Rattle.locks.specs.Good.{locks, goodLocks}
 use Rattle.locks.proofs.GoodLaws.{sound-same}
 use Rattle.master.specs.declared.PolledRow.{PolledRow}
@@ -79,8 +79,8 @@ module _ (n : ℕ) (heard : Bool) (w t : List ℕ) (stands : isRow w ≡ true) w
       ap dueNow (past-station h) ∙ sym (ap (λ (r : List ℕ). dueNow (stationOf r)) (past-row h)))
 
   same-refusal : rowRefusal n heard xs t ≡ pollRefusal n heard t w
-  unfolding rowRefusal pollRefusal turnRefusal goodTables unknown
-  same-refusal = rw (row-good w stands, same-locks, stations-logged w sized n, same-due)
+  unfolding rowRefusal pollRefusal turnRefusal goodTables goodRecords unknown
+  same-refusal = rw (stands, same-locks, stations-logged w sized n, same-due)
 
   abbrev k : ℕ
   k = pollRefusal n heard t w
@@ -140,8 +140,8 @@ module _ (n : ℕ) (heard : Bool) (w t : List ℕ) (stands : isRow w ≡ true) w
 
 -- bytes in which no row stands are bad tables
 pub row-missing : (t w : List ℕ) → isRow w ≡ false → goodTables t w ≡ false
-unfolding goodTables
-row-missing t w m = rw (no-row w m)
+unfolding goodTables goodRecords
+row-missing t w m = rw m
 
 -- a turn keeps the lengths of a record's parts
 turned-long : (n : ℕ) (s : Station) (heard : Bool) (t : List ℕ) → Long s → Long (stationTurn n s heard t .records)

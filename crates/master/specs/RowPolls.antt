@@ -4,7 +4,8 @@ use mathlib.Core.Bool.{Bool, _&&_}
 use mathlib.Core.List.{List}
 use lib.ListN.{set}
 use Rattle.who.specs.declared.Station.{Station}
-use Rattle.who.specs.Row.{stationIn, isIn, goodRow}
+use Rattle.who.specs.Good.{goodRow}
+use Rattle.who.specs.Row.{stationIn, isIn}
 use Rattle.locks.specs.Good.{goodLocks}
 use Rattle.master.specs.declared.Turned.{Turned}
 use Rattle.master.specs.Answers.{turnTold}

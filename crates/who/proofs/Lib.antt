@@ -1,5 +1,5 @@
 pub mod RecordLaws
-pub mod WhoLaws
-pub mod TurnLaws
 pub mod RowLaws
 pub mod RowBytes
+pub mod WhoLaws
+pub mod TurnLaws

@@ -8,15 +8,15 @@ use lib.Dec.{eqb, leb, lit≤}
 use lib.ListN.{length, drop, getD, length-append, drop-of-length-le}
 use lib.Seq.{getD-append-add, drop-cons}
 use borrow.Author.Tests.{leb-true, le-leb, lt-leb, leb-false, eqb-true, eqb-false, eq-eqb, ne-eqb}
-use Rattle.rows.proofs.BoolLaws.{by-test, and-left, and-right, and-both, or-rest, or-from}
+use Rattle.rows.proofs.BoolLaws.{by-test, and-left, and-right, and-both, and-fails, or-rest, or-from}
 use Rattle.rows.proofs.RowLaws.{part-rest, part-mid, over-first, over-next}
 use Rattle.rows.proofs.NumberLaws.{length-lowBytes, low-back, part-back, two-bytes}
 use Rattle.rows.specs.Words.{all, zeros, zeroAt}
 use Rattle.rows.specs.Rows.{part, put}
 use Rattle.rows.specs.Numbers.{lowFirst, lowBytes}
 use Rattle.who.specs.declared.Station.{Station}
-use Rattle.who.specs.Records.{flag, bytesOf, stationOf, nobody, localUser}
-use Rattle.who.specs.Good.{goodCounts, goodRecord}
+use Rattle.who.specs.Records.{flag, bytesOf, stationOf, flagged, nobody, localUser}
+use Rattle.who.specs.Good.{goodCounts, plain, goodStation}
 
 -- misses and slow turns in range
 pub record Counts (misses slow : ℕ) : Type 0 where
@@ -44,45 +44,37 @@ module _ (misses slow : ℕ) where
       (and-both (le-leb slow 11 (c .short))
       (or-from (leb 160 misses) (eqb slow 0) (λ f. eq-eqb slow 0 (c .early (leb-false 160 misses f)))))
 
--- a record that keeps the rules
-pub record Sound (r : List ℕ) : Type 0 where
-  pub logged : getD r 0 0 ≤ 1
-  pub found : getD r 17 0 ≤ 1
-  pub counts : Counts (lowFirst (part r 1 2)) (getD r 3 0)
-  pub out : getD r 0 0 ≡ 0 → zeros r ≡ true
+-- the counts of a good record are in range
+pub station-counts : (n : ℕ) (s : Station) → goodStation n s ≡ true → goodCounts (s .misses) (s .slow) ≡ true
+unfolding goodStation
+station-counts n s h = and-left (goodCounts (s .misses) (s .slow)) _ h
 
-module _ (r : List ℕ) where
-  pub sound-is : goodRecord r ≡ true → Sound r
-  unfolding goodRecord
-  sound-is h =
-      let l = leb (getD r 0 0) 1 in
-      let f = leb (getD r 17 0) 1 in
-      let c = goodCounts (lowFirst (part r 1 2)) (getD r 3 0) in
-      let o = eqb (getD r 0 0) 1 || zeros r in
-      let h₁ = and-right l (f && (c && o)) h in
-      let h₂ = and-right f (c && o) h₁ in record {
-        logged = leb-true _ _ (and-left l (f && (c && o)) h);
-        found = leb-true _ _ (and-left f (c && o) h₁);
-        counts = counts-is _ _ (and-left c o h₂);
-        out = λ z. or-rest (eqb (getD r 0 0) 1) (zeros r) (and-right c o h₂) (ne-eqb (getD r 0 0) 1 (λ e. omega arith));
-      }
+-- and those of a record that is zero
+plain-zero : (s : Station) → plain s ≡ true → (s .misses ≡ 0) × (s .slow ≡ 0)
+unfolding plain
+plain-zero s h =
+    let m = eqb (s .misses) 0 in
+    (eqb-true _ _ (and-left m _ h), eqb-true _ _ (and-left (eqb (s .slow) 0) _ (and-right m _ h)))
 
-  pub is-sound : Sound r → goodRecord r ≡ true
-  unfolding goodRecord
-  is-sound s =
-      and-both (le-leb (getD r 0 0) 1 (s .logged))
-      (and-both (le-leb (getD r 17 0) 1 (s .found))
-      (and-both (is-counts _ _ (s .counts))
-      (or-from (eqb (getD r 0 0) 1) (zeros r) (λ f. s .out (omega (arith, s .logged, eqb-false (getD r 0 0) 1 f))))))
+pub plain-counts : (s : Station) → (goodCounts (s .misses) (s .slow) && plain s) ≡ plain s
+unfolding goodCounts
+plain-counts s = by-test (plain s)
+    (λ y. rw (plain-zero s y .0, plain-zero s y .1))
+    (λ f. and-fails (goodCounts (s .misses) (s .slow)) (plain s) f ∙ sym f)
 
--- nobody and the local user keep the rules
-pub nobody-good : goodRecord nobody ≡ true
-unfolding goodRecord goodCounts lowFirst part zeros zeroAt all
-nobody-good = refl
+-- bytes in which a record stands that keeps the rules of number n
+pub record Sound (n : ℕ) (r : List ℕ) : Type 0 where
+  pub flags : flagged r ≡ true
+  pub rules : goodStation n (stationOf r) ≡ true
 
-pub local-good : goodRecord localUser ≡ true
-unfolding goodRecord goodCounts lowFirst part zeros zeroAt all
-local-good = refl
+-- nobody and the local user do
+pub nobody-sound : (n : ℕ) → (n ≡ 0 → ⊥) → Sound n nobody
+unfolding flagged goodStation goodCounts plain stationOf lowFirst part zeros zeroAt all
+nobody-sound n ne = record { flags = refl; rules = rw (ne-eqb n 0 ne) }
+
+pub local-sound : Sound 0 localUser
+unfolding flagged goodStation goodCounts plain stationOf lowFirst part zeros zeroAt all
+local-sound = record { flags = refl; rules = refl }
 
 -- a flag is 0 or 1, reads back, and is written again as it was read
 pub flag-small : (b : Bool) → flag b ≤ 1
@@ -169,18 +161,20 @@ module _ (s : Station) where
           flag-back (s .found),
         )
 
+    -- its flags are 0 or 1
+    pub bytesOf-flagged : flagged (bytesOf s) ≡ true
+    unfolding flagged
+    bytesOf-flagged = and-both
+        (le-leb (getD (bytesOf s) 0 0) 1 (rw logged-bytesOf (flag-small (s .logged))))
+        (le-leb (getD (bytesOf s) 17 0) 1 (rw (back-bytesOf 1) (flag-small (s .found))))
+
     -- the record of a station that is logged in, with its counts in range
-    pub bytesOf-good : s .logged ≡ true → goodCounts (s .misses) (s .slow) ≡ true → goodRecord (bytesOf s) ≡ true
-    unfolding flag
-    bytesOf-good logged counts =
-        let k = counts-is (s .misses) (s .slow) counts in
-        let one : getD (bytesOf s) 0 0 ≡ 1 = logged-bytesOf ∙ rw logged in
-        is-sound (bytesOf s) (record {
-          logged = omega arith;
-          found = rw (back-bytesOf 1) (flag-small (s .found));
-          counts = rw (misses-bytesOf (omega (arith, k .few)), slow-bytesOf) k;
-          out = λ z. absurd (omega arith);
-        })
+    pub bytesOf-sound : s .logged ≡ true → goodCounts (s .misses) (s .slow) ≡ true → (n : ℕ) → (n ≡ 0 → ⊥) → Sound n (bytesOf s)
+    unfolding goodStation
+    bytesOf-sound logged counts n ne = record {
+      flags = bytesOf-flagged;
+      rules = rw (station-back (omega (arith, counts-is _ _ counts .few)), counts, ne-eqb n 0 ne, logged);
+    }
 
 -- a record by its fields
 module _ (r : List ℕ) (full : length r ≡ 18) where
@@ -190,7 +184,7 @@ module _ (r : List ℕ) (full : length r ≡ 18) where
       ∙ sym (append-nil (part r 16 2))
       ∙ rw (← drop-of-length-le r {i = 18} (omega arith)) (part-rest r 16 2)
 
-  pub laid : getD r 0 0 ∷ (part r 1 2 ++ (getD r 3 0 ∷ (part r 4 8 ++ (part r 12 4 ++ (getD r 16 0 ∷ getD r 17 0 ∷ []))))) ≡ r
+  laid : getD r 0 0 ∷ (part r 1 2 ++ (getD r 3 0 ∷ (part r 4 8 ++ (part r 12 4 ++ (getD r 16 0 ∷ getD r 17 0 ∷ []))))) ≡ r
   laid =
       rw (
         back-again,
@@ -202,7 +196,14 @@ module _ (r : List ℕ) (full : length r ≡ 18) where
       (sym (drop-cons r 0 0 (omega arith)))
 
   -- it is written again as it was read, where its flags are 0 or 1
-  pub bytes-again : ((i : ℕ) → getD r i 0 < 256) → getD r 0 0 ≤ 1 → getD r 17 0 ≤ 1 → bytesOf (stationOf r) ≡ r
-  unfolding bytesOf stationOf
-  bytes-again bytes logged found =
-      rw (flag-again (getD r 0 0) logged, flag-again (getD r 17 0) found, part-back r 1 2 bytes (omega arith)) laid
+  pub bytes-again : ((i : ℕ) → getD r i 0 < 256) → flagged r ≡ true → bytesOf (stationOf r) ≡ r
+  unfolding bytesOf stationOf flagged
+  bytes-again bytes flags =
+      let a = leb (getD r 0 0) 1 in
+      let b = leb (getD r 17 0) 1 in
+      rw (
+        flag-again (getD r 0 0) (leb-true _ _ (and-left a b flags)),
+        flag-again (getD r 17 0) (leb-true _ _ (and-right a b flags)),
+        part-back r 1 2 bytes (omega arith),
+      )
+      laid

@@ -1,24 +1,21 @@
 -- A row of records and its bytes, each from the other.
 use Prim.Native.Nat.{ℕ, zero, suc, _+_, _-_, _*_, _/_, _%_, _≤_, _<_}
-use native.Mathlib.Nat.{add-zero, not-suc-le-zero, le-of-suc-le-suc}
+use native.Mathlib.Nat.{not-suc-le-zero, le-of-suc-le-suc}
 use native.Mathlib.Omega.{arith}
 use mathlib.Core.Path.{_≡_, refl, sym, ap, _∙_}
 use mathlib.Core.Bool.{true}
 use mathlib.Core.List.{List, [], _∷_}
-use lib.Dec.{lit<}
 use lib.ListN.{length, getD, set, length-append, length-set}
 use lib.Seq.{ext-getD, getD-set-same, getD-set-other}
-use borrow.Author.Tests.{eq-eqb, le-leb}
-use Rattle.rows.proofs.BoolLaws.{by-eq, and-both}
-use Rattle.rows.proofs.IndexLaws.{all-from}
+use Rattle.rows.proofs.BoolLaws.{by-eq}
 use Rattle.rows.proofs.RowLaws.{getD-part, part-mid, part-right, length-setRow, row-setRow, row-setRow-other}
 use Rattle.rows.specs.Rows.{part, row, setRow}
 use Rattle.who.specs.declared.Station.{Station}
-use Rattle.who.specs.Records.{flag, bytesOf, stationOf}
-use Rattle.who.specs.Good.{numbers}
-use Rattle.who.specs.Row.{absent, stationIn, bytesOfRow, stationsOf, flagged, isRow}
-use Rattle.who.proofs.RecordLaws.{flag-small, logged-bytesOf, length-bytesOf, back-bytesOf, station-back}
-use Rattle.who.proofs.RowLaws.{length-stations, station-read}
+use Rattle.who.specs.Records.{bytesOf, stationOf}
+use Rattle.who.specs.Good.{numbers, isRow, stationsOf}
+use Rattle.who.specs.Row.{absent, stationIn, bytesOfRow}
+use Rattle.who.proofs.RecordLaws.{length-bytesOf, bytesOf-flagged, station-back}
+use Rattle.who.proofs.RowLaws.{length-stations, station-read, is-row}
 
 -- what the language's types say of a record, and of a row of them
 pub record Long (s : Station) : Type 0 where
@@ -89,19 +86,11 @@ module _ (xs : List Station) (h : LongRow xs) (sized : length xs ≡ numbers) wh
       station-read (bytesOfRow xs) n l ∙ ap stationOf (row-at n l) ∙ station-back (stationIn xs n) (t .name) (t .serial) (typed n (omega arith) .misses))
 
   -- its flags are 0 or 1
-  byte-at : (n k : ℕ) → n < numbers → k < 18 → getD (bytesOfRow xs) (18 * n + k) 0 ≡ getD (bytesOf (stationIn xs n)) k 0
-  byte-at n k l b = sym (getD-part (bytesOfRow xs) (18 * n) 18 k b) ∙ ap (λ (r : List ℕ). getD r k 0) (row-at n l)
-
   pub row-stands : isRow (bytesOfRow xs) ≡ true
-  unfolding isRow flagged
-  row-stands = and-both (eq-eqb (length (bytesOfRow xs)) (18 * numbers) bytes-sized) (all-from (flagged (bytesOfRow xs)) numbers (λ n l.
-      let s = stationIn xs n in
-      let t = long-at n l in
-      let logged : getD (bytesOfRow xs) (18 * n) 0 ≡ flag (s .logged) = ap (λ (k : ℕ). getD (bytesOfRow xs) k 0) (sym (add-zero (18 * n))) ∙ byte-at n 0 l (lit< tt) ∙ logged-bytesOf s in
-      let found : getD (bytesOfRow xs) (18 * n + 17) 0 ≡ flag (s .found) = byte-at n 17 l (lit< tt) ∙ back-bytesOf s (t .name) (t .serial) 1 in
-      and-both
-      (le-leb (getD (bytesOfRow xs) (18 * n) 0) 1 (rw logged (flag-small (s .logged))))
-      (le-leb (getD (bytesOfRow xs) (18 * n + 17) 0) 1 (rw found (flag-small (s .found))))))
+  row-stands = is-row (bytesOfRow xs) (record {
+    sized = bytes-sized;
+    flags = λ n l. let t = long-at n l in rw (row-at n l) (bytesOf-flagged (stationIn xs n) (t .name) (t .serial));
+  })
 
   -- a record put into the row is put into its bytes
   module _ (n : ℕ) (l : n < numbers) (s : Station) (t : Long s) where

@@ -3,47 +3,42 @@ use Prim.Native.Nat.{ℕ, _*_, _/_, _≤_, _<_}
 use native.Mathlib.Nat.{add-zero}
 use native.Mathlib.Omega.{arith}
 use mathlib.Core.Path.{_≡_, refl, sym, ap, _∙_}
-use mathlib.Core.Bool.{true, false, not, cond, _&&_}
+use mathlib.Core.Bool.{true, false, not, cond}
 use mathlib.Core.List.{List, append-nil}
 use lib.Dec.{eqb, leb, ltb, lit<}
 use lib.ListN.{length, getD, drop-of-length-le}
-use borrow.Author.Tests.{eqb-true, eq-eqb, ne-eqb, ltb-true, ltb-false, lt-ltb, le-ltb, leb-true, le-leb, not-true, not-false}
+use borrow.Author.Tests.{eq-eqb, ne-eqb, ltb-true, ltb-false, lt-ltb, le-ltb, leb-true, le-leb, not-true, not-false}
 use Rattle.rows.proofs.BoolLaws.{by-test, by-eq, both, and-left, and-right, and-both}
 use Rattle.rows.proofs.IndexLaws.{first-least, all-at, all-from, first-found, found-if}
-use Rattle.rows.proofs.BuildLaws.{same-is, same-refl}
 use Rattle.rows.proofs.RowLaws.{copies-front, row-copies, getD-part, over-first, length-copies, length-setRow, row-setRow, row-setRow-other}
-use Rattle.rows.specs.Words.{all, first, same}
+use Rattle.rows.specs.Words.{all, first}
 use Rattle.rows.specs.Rows.{put, over, copies, row, setRow}
 use Rattle.who.specs.declared.Station.{Station}
-use Rattle.who.specs.Records.{bytesOf, nobody, localUser}
-use Rattle.who.specs.Good.{goodCounts, goodRecord, goodAt, numbers, goodRecords}
+use Rattle.who.specs.Records.{bytesOf, stationOf, nobody, localUser}
+use Rattle.who.specs.Good.{goodCounts, numbers, goodRow, isRow, stationsOf, goodRecords}
+use Rattle.who.specs.Row.{isIn}
 use Rattle.who.specs.Logins.{recordCount, loggedIn, freeNumber, lowestFree, afterLogin, afterLogout, freshRecords}
-use Rattle.who.proofs.RecordLaws.{nobody-good, local-good, flag-back, logged-bytesOf, length-bytesOf, bytesOf-good}
+use Rattle.who.proofs.RecordLaws.{Sound, nobody-sound, local-sound, flag-back, logged-bytesOf, length-bytesOf, bytesOf-sound}
+use Rattle.who.proofs.RowLaws.{in-past, length-stations, station-read, rulesAt, row-each, row-is, is-row}
 
 -- records that keep the rules
 pub record Good (w : List ℕ) : Type 0 where
   pub sized : length w ≡ 18 * numbers
-  pub local : row 18 w 0 ≡ localUser
-  pub each : (n : ℕ) → n < numbers → goodRecord (row 18 w n) ≡ true
+  pub each : (n : ℕ) → n < numbers → Sound n (row 18 w n)
 
 module _ (w : List ℕ) where
   pub good-is : goodRecords w ≡ true → Good w
-  unfolding goodRecords goodAt
+  unfolding goodRecords
   good-is h =
-      let s = eqb (length w) (18 * numbers) in
-      let l = same (row 18 w 0) localUser in
-      let e = all (goodAt w) numbers in
-      let h₁ = and-right s (l && e) h in record {
-        sized = eqb-true _ _ (and-left s (l && e) h);
-        local = same-is _ _ (and-left l e h₁);
-        each = λ n b. all-at (goodAt w) numbers n (and-right l e h₁) b;
-      }
+      let r = row-is w (and-left (isRow w) (goodRow (stationsOf w)) h) in
+      let rules : all (rulesAt w) numbers ≡ true = sym (row-each w) ∙ and-right (isRow w) (goodRow (stationsOf w)) h in
+      record { sized = r .sized; each = λ n l. record { flags = r .flags n l; rules = all-at (rulesAt w) numbers n rules l } }
 
   pub is-good : Good w → goodRecords w ≡ true
-  unfolding goodRecords goodAt
-  is-good g =
-      let l : same (row 18 w 0) localUser ≡ true = rw (g .local) (same-refl localUser) in
-      and-both (eq-eqb (length w) (18 * numbers) (g .sized)) (and-both l (all-from (goodAt w) numbers (g .each)))
+  unfolding goodRecords
+  is-good g = and-both
+      (is-row w (record { sized = g .sized; flags = λ n l. g .each n l .flags }))
+      (row-each w ∙ all-from (rulesAt w) numbers (λ n l. g .each n l .rules))
 
 -- who is logged in, by the first byte of the record; nobody past the last number
 module _ (w : List ℕ) (sized : length w ≡ 18 * numbers) where
@@ -54,12 +49,19 @@ module _ (w : List ℕ) (sized : length w ≡ 18 * numbers) where
   unfolding loggedIn
   logged-at n l = rw (counted, lt-ltb n numbers l, getD-part w (18 * n) 18 0 (lit< tt), add-zero)
 
-  pub logged-past : (n : ℕ) → numbers ≤ n → loggedIn w n ≡ false
+  logged-past : (n : ℕ) → numbers ≤ n → loggedIn w n ≡ false
   unfolding loggedIn
   logged-past n h = rw (counted, le-ltb n numbers h)
 
   pub logged-below : (n : ℕ) → loggedIn w n ≡ true → n < numbers
   logged-below n y = by-test (ltb n numbers) (ltb-true n numbers) (λ f. both y (logged-past n (ltb-false n numbers f)))
+
+  -- the same as in the row that stands in the bytes
+  pub stations-logged : (n : ℕ) → isIn (stationsOf w) n ≡ loggedIn w n
+  unfolding isIn stationOf
+  stations-logged n = by-test (ltb n numbers)
+      (λ y. let l = ltb-true n numbers y in ap (λ (s : Station). s .logged) (station-read w n l) ∙ sym (logged-at n l))
+      (λ f. let out = ltb-false n numbers f in in-past (stationsOf w) n (omega (arith, length-stations w)) ∙ sym (logged-past n out))
 
 -- record n set to r
 module _ (w : List ℕ) (sized : length w ≡ 18 * numbers) (n : ℕ) (b : n < numbers) (r : List ℕ) (full : length r ≡ 18) where
@@ -75,10 +77,10 @@ module _ (w : List ℕ) (sized : length w ≡ 18 * numbers) (n : ℕ) (b : n < n
   set-other : (m : ℕ) → (m ≡ n → ⊥) → row 18 (setRow 18 w n r) m ≡ row 18 w m
   set-other = row-setRow-other 18 numbers w room n b r full
 
-  set-each : goodRecord r ≡ true → ((m : ℕ) → m < numbers → goodRecord (row 18 w m) ≡ true) → (m : ℕ) → m < numbers → goodRecord (row 18 (setRow 18 w n r) m) ≡ true
-  set-each good each m l = by-eq m n
-      (λ e. rw (e, set-same) good)
-      (λ ne. rw (set-other m ne) (each m l))
+  set-each : Sound n r → ((m : ℕ) → m < numbers → (m ≡ n → ⊥) → Sound m (row 18 w m)) → (m : ℕ) → m < numbers → Sound m (row 18 (setRow 18 w n r) m)
+  set-each fine each m l = by-eq m n
+      (λ e. rw (e, set-same) fine)
+      (λ ne. rw (set-other m ne) (each m l ne))
 
   -- who is logged in then
   pub set-logged : (m : ℕ) → loggedIn (setRow 18 w n r) m ≡ cond (eqb m n) (eqb (getD r 0 0) 1) (loggedIn w m)
@@ -90,26 +92,25 @@ module _ (w : List ℕ) (sized : length w ≡ 18 * numbers) (n : ℕ) (b : n < n
       (λ f. let h = ltb-false m numbers f in
       logged-past (setRow 18 w n r) set-sized m h ∙ sym (logged-past w sized m h))))
 
--- every record but the first can be set to any good one
-pub set-good : (w : List ℕ) → goodRecords w ≡ true → (n : ℕ) → 1 ≤ n → n < numbers → (r : List ℕ) → length r ≡ 18 → goodRecord r ≡ true → goodRecords (setRow 18 w n r) ≡ true
-set-good w good n least b r full fine =
+-- every record can be set to one that keeps the rules of its number
+set-good : (w : List ℕ) → goodRecords w ≡ true → (n : ℕ) → n < numbers → (r : List ℕ) → length r ≡ 18 → Sound n r → goodRecords (setRow 18 w n r) ≡ true
+set-good w good n b r full fine =
     let g = good-is w good in
     is-good (setRow 18 w n r) (record {
       sized = set-sized w (g .sized) n b r full;
-      local = set-other w (g .sized) n b r full 0 (λ e. omega arith) ∙ g .local;
-      each = set-each w (g .sized) n b r full fine (g .each);
+      each = set-each w (g .sized) n b r full fine (λ m l ne. g .each m l);
     })
 
 -- a station that is logged in, with its counts in range, put down as record n
 pub login-good : (w : List ℕ) → goodRecords w ≡ true → (n : ℕ) → 1 ≤ n → n < numbers → (s : Station) → length (s .name) ≡ 8 → length (s .serial) ≡ 4 → s .logged ≡ true → goodCounts (s .misses) (s .slow) ≡ true → goodRecords (afterLogin w n s) ≡ true
 unfolding afterLogin
 login-good w good n least b s name serial logged counts =
-    set-good w good n least b (bytesOf s) (length-bytesOf s name serial) (bytesOf-good s name serial logged counts)
+    set-good w good n b (bytesOf s) (length-bytesOf s name serial) (bytesOf-sound s name serial logged counts n (λ e. omega arith))
 
 -- record n cleared
 pub logout-good : (w : List ℕ) → goodRecords w ≡ true → (n : ℕ) → 1 ≤ n → n < numbers → goodRecords (afterLogout w n) ≡ true
 unfolding afterLogout
-logout-good w good n least b = set-good w good n least b nobody refl nobody-good
+logout-good w good n least b = set-good w good n b nobody refl (nobody-sound n (λ e. omega arith))
 
 -- after a login and after a logout: who is logged in, and that the other records stay
 module _ (w : List ℕ) (sized : length w ≡ 18 * numbers) (n : ℕ) (b : n < numbers) where
@@ -167,11 +168,6 @@ empty-sized = length-copies numbers nobody
 empty-row : (n : ℕ) → n < numbers → row 18 empty n ≡ nobody
 empty-row n b = row-copies 18 nobody refl numbers n b
 
-empty-logged : (n : ℕ) → loggedIn empty n ≡ false
-empty-logged n = by-test (ltb n numbers)
-    (λ y. let b = ltb-true n numbers y in logged-at empty empty-sized n b ∙ rw (empty-row n b))
-    (λ f. logged-past empty empty-sized n (ltb-false n numbers f))
-
 fresh-is : freshRecords ≡ setRow 18 empty 0 localUser
 unfolding freshRecords
 fresh-is = sym (over-first empty localUser ∙ rw (copies-front 63 nobody))
@@ -182,13 +178,9 @@ fresh-made w sized =
     ap (λ (l : List ℕ). put l 0 localUser) (rw (drop-of-length-le w {i = length empty} (omega (arith, empty-sized))) (append-nil empty))
     ∙ sym fresh-is
 
--- they keep the rules, and only user 0 is logged in
-pub fresh-sized : length freshRecords ≡ 18 * numbers
-fresh-sized = rw fresh-is (set-sized empty empty-sized 0 (lit< tt) localUser refl)
-
+-- they keep the rules
 pub fresh-good : goodRecords freshRecords ≡ true
 fresh-good = is-good freshRecords (record {
-  sized = fresh-sized;
-  local = rw fresh-is (set-same empty empty-sized 0 (lit< tt) localUser refl);
-  each = rw fresh-is (set-each empty empty-sized 0 (lit< tt) localUser refl local-good (λ m b. rw (empty-row m b) nobody-good));
+  sized = rw fresh-is (set-sized empty empty-sized 0 (lit< tt) localUser refl);
+  each = rw fresh-is (set-each empty empty-sized 0 (lit< tt) localUser refl local-sound (λ m b ne. rw (empty-row m b) (nobody-sound m ne)));
 })

@@ -1,33 +1,52 @@
--- The rules of the 64 station records.
-use Prim.Native.Nat.{ℕ, _*_}
-use mathlib.Core.Bool.{Bool, _&&_, _||_}
-use mathlib.Core.List.{List}
+-- The rules of the 64 station records, as one row of records, one per user number, and as the bytes of such a row.
+use Prim.Native.Nat.{ℕ, suc, _*_}
+use mathlib.Core.Bool.{Bool, true, cond, not, _&&_, _||_}
+use mathlib.Core.List.{List, [], _∷_}
 use lib.Dec.{eqb, leb}
-use lib.ListN.{length, getD}
-use Rattle.rows.specs.Words.{all, same, zeros}
-use Rattle.rows.specs.Rows.{part, row}
-use Rattle.rows.specs.Numbers.{lowFirst}
-use Rattle.who.specs.Records.{localUser}
+use lib.ListN.{length}
+use Rattle.rows.specs.Words.{all, build, zeros}
+use Rattle.rows.specs.Rows.{row}
+use Rattle.who.specs.declared.Station.{Station}
+use Rattle.who.specs.Records.{stationOf, flagged}
 
 -- misses are 0 to 255; slow turns are 0 to 11, and 0 while misses are below 160
 unfoldable pub goodCounts : ℕ → ℕ → Bool
 goodCounts misses slow = leb misses 255 && (leb slow 11 && (leb 160 misses || eqb slow 0))
 
--- flags 0 or 1; a record not logged in is zero and no throughout
-unfoldable pub goodRecord : List ℕ → Bool
-goodRecord r =
-    leb (getD r 0 0) 1
-    && (leb (getD r 17 0) 1
-    && (goodCounts (lowFirst (part r 1 2)) (getD r 3 0)
-    && (eqb (getD r 0 0) 1 || zeros r)))
+-- all but `logged in` is zero or no
+unfoldable pub plain : Station → Bool
+plain s =
+    eqb (s .misses) 0
+    && (eqb (s .slow) 0
+    && (zeros (s .name)
+    && (zeros (s .serial)
+    && (eqb (s .product) 0
+    && not (s .found)))))
 
-unfoldable pub goodAt : List ℕ → ℕ → Bool
-goodAt w n = goodRecord (row 18 w n)
+-- record 0 is the local user, always logged in, all else zero or no; a record not logged in is zero and no throughout
+unfoldable pub goodStation : ℕ → Station → Bool
+goodStation n s = goodCounts (s .misses) (s .slow) && cond (eqb n 0) (s .logged && plain s) (s .logged || plain s)
 
 -- one record per user number, 0 to 63
 abbrev pub numbers : ℕ
 numbers = 64
 
--- record 0 is the local user, always logged in, all else zero or no
+-- records that are numbered from n on
+unfoldable pub goodFrom : ℕ → List Station → Bool
+goodFrom n [] = true
+goodFrom n (s ∷ xs) = goodStation n s && goodFrom (suc n) xs
+
+unfoldable pub goodRow : List Station → Bool
+goodRow xs = eqb (length xs) numbers && goodFrom 0 xs
+
+-- bytes in which a row stands: 64 records with flags 0 or 1
+unfoldable pub isRow : List ℕ → Bool
+isRow w = eqb (length w) (18 * numbers) && all (λ n. flagged (row 18 w n)) numbers
+
+-- the row that stands in them
+unfoldable pub stationsOf : List ℕ → List Station
+stationsOf w = build (λ n. stationOf (row 18 w n)) numbers
+
+-- bytes in which a row stands that keeps the rules
 unfoldable pub goodRecords : List ℕ → Bool
-goodRecords w = eqb (length w) (18 * numbers) && (same (row 18 w 0) localUser && all (goodAt w) numbers)
+goodRecords w = isRow w && goodRow (stationsOf w)

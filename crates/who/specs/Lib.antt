@@ -1,5 +1,6 @@
 pub mod Records
 pub mod Good
+pub mod Row
 pub mod Logins
 pub mod Turns
-pub mod Row
+pub mod Inner

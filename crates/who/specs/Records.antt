@@ -1,14 +1,14 @@
 -- The station record, as a struct and as 18 bytes: logged in, misses (2, low byte first), slow turns, name 8, serial 4, product, name found.
 use Prim.Native.Nat.{ℕ}
-use mathlib.Core.Bool.{Bool, cond}
+use mathlib.Core.Bool.{Bool, cond, _&&_}
 use mathlib.Core.List.{List, [], _∷_, _++_}
-use lib.Dec.{eqb}
+use lib.Dec.{eqb, leb}
 use lib.ListN.{getD, replicate}
 use Rattle.rows.specs.Rows.{part}
 use Rattle.rows.specs.Numbers.{lowFirst, lowBytes}
 use Rattle.who.specs.declared.Station.{Station}
 
--- flags are 0 or 1
+-- a flag is 0 or 1
 unfoldable pub flag : Bool → ℕ
 flag b = cond b 1 0
 
@@ -27,6 +27,10 @@ stationOf r = record {
   product = getD r 16 0;
   found = eqb (getD r 17 0) 1;
 }
+
+-- flags are 0 or 1
+unfoldable pub flagged : List ℕ → Bool
+flagged r = leb (getD r 0 0) 1 && leb (getD r 17 0) 1
 
 -- zero and no throughout
 abbrev pub nobody : List ℕ

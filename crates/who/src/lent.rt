@@ -9,9 +9,10 @@ ghost use Prim.Native.Nat.{_*_, _<_};
 ghost use lib.ListN.{length};
 ghost use Rattle.rows.specs.Outcomes.{Gives};
 ghost use Rattle.rows.specs.Rows.{row};
-ghost use Rattle.who.specs.Records.{flag, stationOf};
-ghost use Rattle.who.specs.Good.{numbers};
-ghost use Rattle.who.specs.Row.{vacant as vacantOf, plain, goodStation, wordOf, rollOf, noted, stationsOf, flagged, isRow};
+ghost use Rattle.who.specs.Records.{flag, stationOf, flagged};
+ghost use Rattle.who.specs.Good.{numbers, isRow, stationsOf};
+ghost use Rattle.who.specs.Row.{vacant as vacantOf};
+ghost use Rattle.who.specs.Inner.{wordOf, rollOf, noted};
 
 // A record that is zero and no throughout.
 pub fn vacant() -> Station
@@ -28,43 +29,6 @@ pub fn vacant() -> Station
     }
 }
 
-// All but `logged in` is zero or no.
-fn is_plain(s: Station) -> bool
-    ensures { λ r. ⌜ r ≡ plain s ⌝ }
-{
-    if s.misses != 0 {
-        return false;
-    }
-    if s.slow != 0 {
-        return false;
-    }
-    let name = s.name;
-    if !rows::is_zero(&name) {
-        return false;
-    }
-    let serial = s.serial;
-    if !rows::is_zero(&serial) {
-        return false;
-    }
-    if s.product != 0 {
-        return false;
-    }
-    !s.found
-}
-
-// The record of number n keeps the rules.
-fn is_good(n: usize, s: Station) -> bool
-    ensures { λ r. ⌜ r ≡ goodStation n s ⌝ }
-{
-    if !crate::counts_good(s.misses, s.slow) {
-        return false;
-    }
-    if n == 0 {
-        return if s.logged { is_plain(s) } else { false };
-    }
-    if s.logged { true } else { is_plain(s) }
-}
-
 // The roll with record n before those that it has.
 fn note(n: usize, s: Station, rest: Roll) -> Roll
     requires { ⌜ rest .word < 9223372036854775808 ⌝ }
@@ -76,7 +40,7 @@ fn note(n: usize, s: Station, rest: Roll) -> Roll
             word: 0,
         };
     }
-    if !is_good(n, s) {
+    if !crate::station_good(n, s) {
         return Roll {
             good: false,
             word: 0,
@@ -135,7 +99,7 @@ pub fn word_of(records: &[u8]) -> u64
 // The flags of record n are 0 or 1.
 fn is_flagged(records: &[u8], n: usize) -> bool
     requires { ⌜ (length (now records) ≡ 18 * numbers) × (n < numbers) ⌝ }
-    ensures { λ r. ⌜ r ≡ flagged (now (records .entry)) n ⌝ }
+    ensures { λ r. ⌜ r ≡ flagged (row 18 (now (records .entry)) n) ⌝ }
 {
     let at = RECORD * n;
     if 1 < records[at] {

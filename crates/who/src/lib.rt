@@ -5,11 +5,10 @@ pub mod lent;
 ghost use mathlib.Core.Path.{_≡_};
 ghost use Prim.Native.Nat.{_+_, _*_, _≤_};
 ghost use lib.ListN.{length};
-ghost use Rattle.rows.specs.Words.{all};
 ghost use Rattle.rows.specs.Rows.{row, setRow};
 ghost use Rattle.rows.specs.Outcomes.{Gives};
 ghost use Rattle.who.specs.Records.{flag, bytesOf, stationOf};
-ghost use Rattle.who.specs.Good.{goodCounts, goodRecord, goodAt, numbers, goodRecords};
+ghost use Rattle.who.specs.Good.{goodCounts, plain, goodStation, numbers, goodRecords};
 ghost use Rattle.who.specs.Logins.{loggedIn, freeNumber, lowestFree, afterLogout, freshRecords};
 ghost use Rattle.who.specs.Turns.{isDue, turnOf};
 ghost use mathlib.Core.Bool.{true};
@@ -157,51 +156,59 @@ fn counts_good(misses: u16, slow: u8) -> bool
     slow == 0
 }
 
-// A record by itself keeps the rules.
-fn record_good(r: &[u8]) -> bool
-    requires { ⌜ length (now r) ≡ 18 ⌝ }
-    ensures { λ b. ⌜ b ≡ goodRecord (now (r .entry)) ⌝ }
+// All but `logged in` is zero or no.
+fn is_plain(s: Station) -> bool
+    ensures { λ r. ⌜ r ≡ plain s ⌝ }
 {
-    if 1 < r[0] {
+    if s.misses != 0 {
         return false;
     }
-    if 1 < r[17] {
+    if s.slow != 0 {
         return false;
     }
-    if !counts_good(rows::two_at(r, 1), r[3]) {
+    let name = s.name;
+    if !rows::is_zero(&name) {
         return false;
     }
-    if r[0] == 1 {
-        return true;
+    let serial = s.serial;
+    if !rows::is_zero(&serial) {
+        return false;
     }
-    rows::is_zero(r)
+    if s.product != 0 {
+        return false;
+    }
+    !s.found
 }
 
-fn records_good(records: &[u8]) -> bool
-    requires { ⌜ length (now records) ≡ 18 * numbers ⌝ }
-    ensures { λ b. ⌜ b ≡ all (goodAt (now (records .entry))) numbers ⌝ }
+// The record of number n keeps the rules. The counts of a record that is zero are in range.
+fn station_good(n: usize, s: Station) -> bool
+    ensures { λ r. ⌜ r ≡ goodStation n s ⌝ }
 {
+    if n == 0 {
+        return if s.logged { is_plain(s) } else { false };
+    }
+    if s.logged {
+        counts_good(s.misses, s.slow)
+    } else {
+        is_plain(s)
+    }
+}
+
+// The 64 records keep the rules: a row stands in the bytes, and each record of it is good.
+pub fn is_good(records: &[u8]) -> bool
+    ensures { λ b. ⌜ Gives (goodRecords (now (records .entry))) b ⌝ }
+{
+    if !lent::is_row(records) {
+        return false;
+    }
     let mut n: usize = 0;
     while n < NUMBERS {
-        if !record_good(rows::part(records, RECORD * n, RECORD)) {
+        if !station_good(n, station_at(records, n)) {
             return false;
         }
         n += 1;
     }
     true
-}
-
-// The 64 records keep the rules.
-pub fn is_good(records: &[u8]) -> bool
-    ensures { λ b. ⌜ Gives (goodRecords (now (records .entry))) b ⌝ }
-{
-    if records.len() != BYTES {
-        return false;
-    }
-    if !rows::is_same(rows::part(records, 0, RECORD), &LOCAL_USER) {
-        return false;
-    }
-    records_good(records)
 }
 
 // Leaves only user 0 logged in.

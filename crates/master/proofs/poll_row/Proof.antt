@@ -51,9 +51,11 @@ use denote.Signature.{plain}
 use Rattle.rows.specs.Outcomes.{Gives}
 use Rattle.who.specs.declared.Roll.{Roll}
 use Rattle.who.specs.declared.Station.{Station}
-use Rattle.who.specs.Good.{goodCounts, numbers}
-use Rattle.who.specs.Row.{absent, stationIn, goodRow, rollOf}
-use Rattle.who.proofs.RowLaws.{good-is, station-counts}
+use Rattle.who.specs.Good.{goodCounts, numbers, goodRow}
+use Rattle.who.specs.Row.{absent, stationIn}
+use Rattle.who.specs.Inner.{rollOf}
+use Rattle.who.proofs.RecordLaws.{station-counts}
+use Rattle.who.proofs.RowLaws.{good-is}
 use Rattle.who.proofs.Station as T
 use Rattle.who.proofs.Station.Laws as T′
 use Rattle.who.proofs.Roll as O

@@ -1,9 +1,9 @@
 use Rattle.master.specs.Tables.{goodTables}
 use Rattle.locks.specs.Good.{goodLocks}
 use Rattle.who.specs.Logins.{loggedIn}
-use Rattle.who.specs.Row.{stationsOf}
-use Rattle.who.proofs.RowLaws.{word-in, stations-logged}
-use Rattle.who.proofs.WhoLaws.{good-is}
+use Rattle.who.specs.Good.{stationsOf}
+use Rattle.who.proofs.RowLaws.{word-in}
+use Rattle.who.proofs.WhoLaws.{good-is, stations-logged}
 use Rattle.rows.specs.Numbers.{bitAt}
 use borrow.Author.Tests.{not-true, not-false}
 use denote.Ref.{now}

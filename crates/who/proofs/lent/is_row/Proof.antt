@@ -1,5 +1,6 @@
-use Rattle.who.specs.Row.{flagged, isRow}
-use Rattle.who.specs.Good.{numbers}
+use Rattle.who.specs.Records.{flagged}
+use Rattle.rows.specs.Rows.{row}
+use Rattle.who.specs.Good.{numbers, isRow}
 use Rattle.rows.proofs.IndexLaws.{Passing, pass-starts, pass-on, pass-breaks, pass-ends}
 use borrow.Author.Tests.{eq-eqb, ne-eqb, not-true, not-false}
 use mathlib.Core.Path.{sym, _∙_}
@@ -9,7 +10,7 @@ use Rattle.who.proofs.lent.is_row.Statement.{statement}
 use Rattle.who.proofs.lent.is_row.Tie as tie
 
 abbrev Inv-loop : tie.InvT-loop
-Inv-loop records n₀ n = Passing (flagged records) numbers n
+Inv-loop records n₀ n = Passing (λ k. flagged (row 18 records k)) numbers n
 
 abbrev μ-loop : tie.MeasureT-loop
 μ-loop records n₀ n = numbers - n

@@ -51,7 +51,8 @@ use denote.Signature.{Slot, plain, shrSliceOf}
 use Rattle.who.specs.declared.Station.{Station}
 use Rattle.who.specs.declared.Roll.{Roll}
 use Rattle.who.specs.Good.{numbers}
-use Rattle.who.specs.Row.{absent, stationIn, rollOf, noted}
+use Rattle.who.specs.Row.{absent, stationIn}
+use Rattle.who.specs.Inner.{rollOf, noted}
 use Rattle.who.proofs.RowLaws.{rollFrom, roll-starts, roll-ends, roll-more, roll-fits}
 use Rattle.who.proofs.Station as T
 use Rattle.who.proofs.Station.Laws as T′

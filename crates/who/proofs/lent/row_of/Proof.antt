@@ -1,6 +1,5 @@
-use Rattle.who.specs.Row.{stationsOf}
 use Rattle.who.specs.Records.{stationOf}
-use Rattle.who.specs.Good.{numbers}
+use Rattle.who.specs.Good.{numbers, stationsOf}
 use Rattle.who.specs.declared.Station.{Station}
 use Rattle.rows.specs.Words.{build}
 use Rattle.rows.specs.Rows.{row as rowAt}

@@ -3,7 +3,9 @@ use Rattle.who.proofs.RowLaws.{word-more, word-room, length-stations, s
 use Rattle.who.specs.declared.Station.{Station}
 use Rattle.who.specs.Records.{flag, stationOf}
 use Rattle.rows.specs.Rows.{row}
-use Rattle.who.specs.Row.{wordOf, stationsOf, stationIn}
+use Rattle.who.specs.Good.{stationsOf}
+use Rattle.who.specs.Row.{stationIn}
+use Rattle.who.specs.Inner.{wordOf}
 use denote.Ref.{now}
 use lib.ListN.{drop, drop-of-length-le}
 use mathlib.Core.Path.{_≡_, sym, ap, ap₂, _∙_}

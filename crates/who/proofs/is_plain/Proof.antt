@@ -1,9 +1,9 @@
-use Rattle.who.specs.Row.{plain}
+use Rattle.who.specs.Good.{plain}
 use borrow.Author.Tests.{eq-eqb, ne-eqb, not-true, not-false}
 use mathlib.Core.Path.{sym, _∙_}
 use borrow.Author.Needs.{needs}
-use Rattle.who.proofs.lent.is_plain.Statement.{statement}
-use Rattle.who.proofs.lent.is_plain.Tie as tie
+use Rattle.who.proofs.is_plain.Statement.{statement}
+use Rattle.who.proofs.is_plain.Tie as tie
 
 returns : tie.Need-returns
 unfolding plain
