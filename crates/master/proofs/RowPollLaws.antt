@@ -29,7 +29,7 @@ use Rattle.master.specs.Polls.{withCounts, afterTurn, turnRefusal, dueNo
 use Rattle.master.specs.RowPolls.{rowRefusal, RowPolls, rowEffect}
 use Rattle.master.specs.Answers.{turnTold}
 use Rattle.master.specs.Effects.{unless}
-use Rattle.master.specs.Inner.{seatRefusal, early, stepRefusal, Steps}
+use Rattle.master.specs.Inner.{seatRefusal, early, stepRefusal, Steps, readAt}
 use Rattle.master.proofs.EffectLaws.{refusing}
 use Rattle.master.proofs.PollLaws.{seated, refusal-last}
 
@@ -93,7 +93,8 @@ module _ (word n : ℕ) (heard : Bool) (s : Station) (t : List ℕ) where
   steps-turned z p t′ d = let same : stepRefusal word n s heard t ≡ early s heard = step-refusal ∙ rw z in rw same d
 
 -- the record that is read for a number is one of the row
-pub slot-below : (n : ℕ) → cond (ltb n numbers) n 0 < numbers
+pub slot-below : (n : ℕ) → readAt n < numbers
+unfolding readAt
 slot-below n = by-test (ltb n numbers) (λ y. rw y (ltb-true n numbers y)) (λ m. rw m (lit< tt))
 
 -- what the turn of the record of n makes of the row; a number that has none is refused, and the record read is put back
@@ -107,10 +108,11 @@ module _ (n : ℕ) (heard : Bool) (xs : List Station) (t : List ℕ) where
 
   module _ (good : goodRow xs ≡ true) where
     abbrev at : ℕ
-    at = cond (ltb n numbers) n 0
+    at = readAt n
 
     -- a number that is logged in reads its own record
     in-own : isIn xs n ≡ true → at ≡ n
+    unfolding readAt
     in-own inside = by-test (ltb n numbers) (λ y. rw y) (λ m. both inside (in-past xs n (omega (arith, good-is xs good .sized, ltb-false n numbers m))))
 
     -- what the word refuses of a station with this due

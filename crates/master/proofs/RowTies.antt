@@ -1,19 +1,19 @@
 -- The poll turn over a row of records is the poll turn over the bytes in which it stands; only one outcome; a refusal leaves everything.
 use Prim.Native.Nat.{ℕ, _*_, _≤_, _<_}
 use native.Mathlib.Omega.{arith}
-use mathlib.Core.Path.{_≡_, refl, sym, ap, subst, _∙_}
+use mathlib.Core.Path.{_≡_, refl, sym, ap, _∙_}
 use mathlib.Core.Bool.{Bool, true, false}
 use mathlib.Core.List.{List, []}
-use lib.Dec.{ltb}
+use lib.Dec.{eqb, ltb}
 use lib.ListN.{length, take, set, drop-of-length-le, List·getD-eq-default}
 use lib.Seq.{getD-set-same}
-use borrow.Author.Tests.{ne-eqb, ltb-true, ltb-false}
-use Rattle.rows.proofs.BoolLaws.{by-test, by-eq, both}
+use borrow.Author.Tests.{eqb-true, ne-eqb, lt-ltb, ltb-true, ltb-false}
+use Rattle.rows.proofs.BoolLaws.{by-test, by-eq}
 use Rattle.rows.specs.Outcomes.{Leaves}
-use Rattle.rows.specs.Rows.{part, row}
+use Rattle.rows.specs.Rows.{part, row, setRow}
 use Rattle.rows.specs.Numbers.{lowFirst}
 use Rattle.who.specs.declared.Station.{Station}
-use Rattle.who.specs.Records.{stationOf}
+use Rattle.who.specs.Records.{stationOf, bytesOf}
 use Rattle.who.specs.Good.{numbers, goodRow, isRow, stationsOf, goodRecords}
 use Rattle.who.specs.Logins.{loggedIn}
 use Rattle.who.specs.Row.{absent, stationIn, isIn, bytesOfRow}
@@ -22,7 +22,7 @@ use Rattle.who.proofs.RowBytes.{Long, LongRow, TypedRow, length-row-bytes, stat
 use Rattle.who.proofs.WhoLaws.{logged-below, stations-logged}
 use Rattle.locks.specs.Good.{locks, goodLocks}
 use Rattle.locks.proofs.GoodLaws.{sound-same}
-use Rattle.master.specs.declared.PolledRow.{PolledRow}
+use Rattle.master.specs.declared.Step.{Step}
 use Rattle.master.specs.declared.Turned.{Turned}
 use Rattle.master.specs.declared.Turned.the-variants.{Refused, Turn}
 use Rattle.master.specs.Answers.{Told, refuses, answers, turnTold}
@@ -33,7 +33,7 @@ use Rattle.master.specs.RowPolls.{rowRefusal, RowPolls, rowEffect}
 use Rattle.master.proofs.PollLaws.{seated, polls-refused, poll-bad-tables}
 use Rattle.master.proofs.PollKeeps.{refused-turn-untouched}
 use Rattle.master.specs.Effects.{unless}
-use Rattle.master.specs.Inner.{isTurn, writtenBack}
+use Rattle.master.specs.Inner.{isTurn, writtenBack, readAt, Lends}
 
 -- what is told says whether there was a turn
 told-turn : Told → Bool
@@ -94,48 +94,47 @@ module _ (n : ℕ) (heard : Bool) (w t : List ℕ) (stands : isRow w ≡ true) w
     unfolding stationAt
     read = station-read w n below
 
-    -- the record after the turn
-    turned-record : (xs′ : List Station) → xs′ ≡ rowEffect n heard xs t .records → stationIn xs′ n ≡ stationTurn n (stationAt w n) heard t .records
-    unfolding rowEffect unless stationIn
-    turned-record xs′ e =
+    -- the record that was read, after the turn
+    turned-record : stationIn (rowEffect n heard xs t .records) (readAt n) ≡ stationTurn n (stationAt w n) heard t .records
+    unfolding rowEffect unless stationIn readAt
+    turned-record =
         let s = stationTurn n (stationIn xs n) heard t .records in
-        let after : xs′ ≡ set xs n s = e ∙ rw (same-refusal, z) in
-        ap (λ (l : List Station). stationIn l n) after
-        ∙ getD-set-same xs n s absent (omega (arith, length-stations w, below))
-        ∙ ap (λ (x : Station). stationTurn n x heard t .records) read
+        rw (lt-ltb n numbers below, same-refusal, z)
+        (getD-set-same xs n s absent (omega (arith, length-stations w, below))
+        ∙ ap (λ (x : Station). stationTurn n x heard t .records) read)
 
-  -- the outcome over the row, written back, is the outcome over the bytes
-  pub row-ties : (r : Turned) (xs′ : List Station) (t′ : List ℕ) → RowPolls n heard xs t r xs′ t′ → Polls n heard t w r t′ (writtenBack n (record { row = xs′; answer = r }) w)
-  unfolding rowEffect pollEffect unless writtenBack told-turn stationTurn
-  row-ties r xs′ t′ a = by-eq k 0
-      (λ z.
-      let turn : isTurn r ≡ true = turn-by-told r ∙ ap told-turn (a .answer) ∙ rw (same-refusal, z) (turn-answers n (stationIn xs n) heard t) in record {
-        answer = a .answer ∙ rw (same-refusal, z, read z);
-        locks = a .locks ∙ rw (same-refusal, z, read z);
-        records = rw (turn, z, turned-record z xs′ (a .records));
-      })
-      (λ ne.
-      let m = ne-eqb k 0 ne in
-      let still : isTurn r ≡ false = turn-by-told r ∙ ap told-turn (a .answer) ∙ rw (same-refusal, m) in record {
-        answer = a .answer ∙ rw (same-refusal, m);
-        locks = a .locks ∙ rw (same-refusal, m);
-        records = rw (still, m);
-      })
-
-  -- the same of a row that was read out of the bytes: a turn is that of a number with a record, and what is written back is the outcome
-  module _ (ys : List Station) (read-out : ys ≡ stationsOf w) (p : PolledRow) (t′ : List ℕ) (polls : RowPolls n heard ys t (p .answer) (p .row) t′) where
-    over-row : RowPolls n heard xs t (p .answer) (p .row) t′
-    over-row = subst (λ (l : List Station). RowPolls n heard l t (p .answer) (p .row) t′) read-out polls
+  -- what is told of a turn over the row that stands in w, and the record read after it: a turn is that of a number with a record, and
+  -- written back it is the turn over w
+  module _ (p : Step) (t′ : List ℕ) (a : Lends n heard w t p t′) where
+    is-turn : isTurn (p .answer) ≡ eqb k 0
+    unfolding rowEffect unless told-turn
+    is-turn = turn-by-told (p .answer) ∙ ap told-turn (a .answer) ∙ by-eq k 0
+        (λ z. rw (same-refusal, z) (turn-answers n (stationIn xs n) heard t))
+        (λ ne. rw (same-refusal, ne-eqb k 0 ne))
 
     pub turn-below : isTurn (p .answer) ≡ true → n < numbers
-    unfolding rowEffect unless told-turn
-    turn-below y = by-eq k 0 below (λ ne. both y (turn-by-told (p .answer) ∙ ap told-turn (over-row .answer) ∙ rw (same-refusal, ne-eqb k 0 ne)))
+    turn-below y = below (eqb-true k 0 (sym is-turn ∙ y))
+
+    row-ties : Polls n heard t w (p .answer) t′ (writtenBack n p w)
+    unfolding rowEffect pollEffect unless writtenBack
+    row-ties = by-eq k 0
+        (λ z. record {
+          answer = a .answer ∙ rw (same-refusal, z, read z);
+          locks = a .locks ∙ rw (same-refusal, z, read z);
+          records = rw (is-turn, z) (ap (λ (s : Station). setRow 18 w n (bytesOf s)) (a .records ∙ turned-record z));
+        })
+        (λ ne.
+        let m = ne-eqb k 0 ne in record {
+          answer = a .answer ∙ rw (same-refusal, m);
+          locks = a .locks ∙ rw (same-refusal, m);
+          records = rw (is-turn, m);
+        })
 
     pub polls-written : (r : Turned) (w′ : List ℕ) → Leaves (p .answer) (writtenBack n p w) r w′ → Polls n heard t w r t′ w′
-    polls-written r w′ l = let d = row-ties (p .answer) (p .row) t′ over-row in record {
-      answer = ap turnTold (l .answer) ∙ d .answer;
-      locks = d .locks;
-      records = l .left ∙ d .records;
+    polls-written r w′ l = record {
+      answer = ap turnTold (l .answer) ∙ row-ties .answer;
+      locks = row-ties .locks;
+      records = l .left ∙ row-ties .records;
     }
 
 -- bytes in which no row stands are bad tables
@@ -158,33 +157,36 @@ module _ (n : ℕ) (heard : Bool) (ys : List Station) (t : List ℕ) (typed : Ty
   abbrev bytes : List ℕ
   bytes = bytesOfRow ys
 
-  written : length ys ≡ numbers → (isTurn r ≡ true → n < numbers) → bytesOfRow ys′ ≡ writtenBack n (record { row = ys′; answer = r }) bytes
-  unfolding writtenBack rowEffect unless told-turn stationTurn
-  written sized below-then = by-eq (rowRefusal n heard ys t) 0
-      (λ z.
-      let turn : isTurn r ≡ true = turn-by-told r ∙ ap told-turn (a .answer) ∙ rw z (turn-answers n (stationIn ys n) heard t) in
-      let l = below-then turn in
-      let s = stationTurn n (stationIn ys n) heard t .records in
-      let h = turned-long n (stationIn ys n) heard t (longs n (omega arith)) in
-      let after : ys′ ≡ set ys n s = a .records ∙ rw z in
-      let back : stationIn ys′ n ≡ s = ap (λ (q : List Station). stationIn q n) after ∙ put-same ys longs sized n l s h in
-      rw (turn, back) (ap bytesOfRow after ∙ bytes-put ys longs sized n l s h))
-      (λ ne.
-      let m = ne-eqb (rowRefusal n heard ys t) 0 ne in
-      let still : isTurn r ≡ false = turn-by-told r ∙ ap told-turn (a .answer) ∙ rw m in
-      let same : ys′ ≡ ys = a .records ∙ rw m in
-      rw still (ap bytesOfRow same))
+  module _ (sized : length ys ≡ numbers) where
+    stands : isRow bytes ≡ true
+    stands = row-stands ys longs sized
 
-  full-row : length ys ≡ numbers → Polls n heard t bytes r t′ (bytesOfRow ys′)
-  full-row sized =
-      let stands = row-stands ys longs sized in
-      let again = stations-again ys longs sized typed in
-      let over = subst (λ (l : List Station). RowPolls n heard l t r ys′ t′) (sym again) a in
-      let d = row-ties n heard bytes t stands r ys′ t′ over in record {
-        answer = d .answer;
-        locks = d .locks;
-        records = written sized (turn-below n heard bytes t stands ys (sym again) (record { row = ys′; answer = r }) t′ a) ∙ d .records;
-      }
+    -- the record that was read, and the answer
+    abbrev p : Step
+    p = record { next = stationIn ys′ (readAt n); answer = r }
+
+    lends : Lends n heard bytes t p t′
+    lends = rw (stations-again ys longs sized typed) (record { answer = a .answer; locks = a .locks; records = ap (λ (l : List Station). stationIn l (readAt n)) (a .records) })
+
+    written : bytesOfRow ys′ ≡ writtenBack n p bytes
+    unfolding writtenBack rowEffect unless told-turn readAt
+    written = by-eq (rowRefusal n heard ys t) 0
+        (λ z.
+        let turn : isTurn r ≡ true = turn-by-told r ∙ ap told-turn (a .answer) ∙ rw z (turn-answers n (stationIn ys n) heard t) in
+        let l = turn-below n heard bytes t stands p t′ lends turn in
+        let s = stationTurn n (stationIn ys n) heard t .records in
+        let h = turned-long n (stationIn ys n) heard t (longs n (omega arith)) in
+        let after : ys′ ≡ set ys n s = a .records ∙ rw z in
+        let back : stationIn ys′ n ≡ s = ap (λ (q : List Station). stationIn q n) after ∙ put-same ys longs sized n l s h in
+        rw (turn, lt-ltb n numbers l, back) (ap bytesOfRow after ∙ bytes-put ys longs sized n l s h))
+        (λ ne.
+        let m = ne-eqb (rowRefusal n heard ys t) 0 ne in
+        let still : isTurn r ≡ false = turn-by-told r ∙ ap told-turn (a .answer) ∙ rw m in
+        let same : ys′ ≡ ys = a .records ∙ rw m in
+        rw still (ap bytesOfRow same))
+
+    full-row : Polls n heard t bytes r t′ (bytesOfRow ys′)
+    full-row = let d = row-ties n heard bytes t stands p t′ lends in record { answer = d .answer; locks = d .locks; records = written ∙ d .records }
 
   -- a row of another length is refused, and so are its bytes
   row-11 : (length ys ≡ numbers → ⊥) → rowRefusal n heard ys t ≡ 11

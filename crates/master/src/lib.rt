@@ -48,12 +48,6 @@ pub struct Step {
     pub answer: Turned,
 }
 
-// The row after a poll turn, and the answer to it.
-pub struct PolledRow {
-    pub row: [Station; 64],
-    pub answer: Turned,
-}
-
 // Fills fresh tables: 64 free rows and only user 0. 11 for another size.
 pub fn fresh(locks: &mut [u8], records: &mut [u8]) -> Answer
     ensures { λ r. ⌜ Freshens (now (locks .entry)) (now (records .entry)) r (now (locks .exit)) (now (records .exit)) ⌝ }
@@ -128,7 +122,6 @@ pub fn poll_turn(number: u32, heard: bool, locks: &mut [u8], records: &mut [u8])
     if !who::lent::is_row(records) {
         return Turned::Refused(11);
     }
-    let row = who::lent::row_of(records);
-    let polled = poll::poll_rows(row, locks, number, heard);
+    let polled = poll::lend_row(records, locks, number, heard);
     poll::write_back(number, polled, records)
 }

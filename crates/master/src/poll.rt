@@ -1,14 +1,12 @@
 // One poll turn: the refusals that the tables and the number give, the turn of one record by value, and the row that is
 // lent for it.
-use crate::PolledRow;
 use crate::Step;
 use crate::Turned;
 use crate::refusals;
 use who::Station;
 ghost use mathlib.Core.Path.{_≡_};
-ghost use mathlib.Core.Bool.{true, cond, not, _&&_};
+ghost use mathlib.Core.Bool.{true, not, _&&_};
 ghost use Prim.Native.Nat.{_*_, _<_};
-ghost use lib.Dec.{ltb};
 ghost use lib.ListN.{length};
 ghost use Rattle.rows.specs.Numbers.{bitAt};
 ghost use Rattle.rows.specs.Outcomes.{Leaves};
@@ -16,8 +14,7 @@ ghost use Rattle.who.specs.Good.{goodCounts, numbers};
 ghost use Rattle.master.specs.Refusals.{unknown};
 ghost use Rattle.master.specs.Polls.{withCounts};
 ghost use Rattle.locks.specs.Good.{goodLocks};
-ghost use Rattle.master.specs.RowPolls.{RowPolls};
-ghost use Rattle.master.specs.Inner.{seatRefusal, early, stepRefusal, Steps, isTurn, writtenBack};
+ghost use Rattle.master.specs.Inner.{seatRefusal, early, stepRefusal, readAt, Steps, Lends, isTurn, writtenBack};
 
 // The number is nobody's, by the word of who is logged in.
 fn is_stranger(number: u32, word: u64) -> bool
@@ -105,7 +102,7 @@ fn turn_one(s: Station, number: u8, heard: bool, locks: &mut [u8]) -> Step
 
 // The record that a turn of the number reads: its own, or the first where it has none.
 pub fn slot_of(number: u32) -> usize
-    ensures { λ r. ⌜ r ≡ cond (ltb number numbers) number 0 ⌝ }
+    ensures { λ r. ⌜ r ≡ readAt number ⌝ }
 {
     let at = number as usize;
     if at < who::NUMBERS { at } else { 0 }
@@ -126,17 +123,23 @@ pub fn poll_one(s: Station, word: u64, number: u32, heard: bool, locks: &mut [u8
     turn_one(s, number as u8, heard, locks)
 }
 
-// The row by value, lent for a turn and handed back: its own parameters are plain, so whoever calls it needs no walk.
-pub fn poll_rows(row: [Station; 64], locks: &mut [u8], number: u32, heard: bool) -> PolledRow
-    ensures { λ r. ⌜ RowPolls number heard row (now (locks .entry)) (r .answer) (r .row) (now (locks .exit)) ⌝ }
+// The turn over the records in bytes: they are read into a row, the one row that there is, and that is lent. Its own
+// parameters are plain, so whoever calls it needs no walk.
+pub fn lend_row(records: &[u8], locks: &mut [u8], number: u32, heard: bool) -> Step
+    requires { ⌜ length (now records) ≡ 18 * numbers ⌝ }
+    ensures { λ r. ⌜ Lends number heard (now (records .entry)) (now (locks .entry)) r (now (locks .exit)) ⌝ }
 {
-    let mut lent = row;
-    let answer = crate::poll_row(&mut lent, locks, number, heard);
-    PolledRow { row: lent, answer }
+    let mut row = who::lent::row_of(records);
+    let answer = crate::poll_row(&mut row, locks, number, heard);
+    let at = slot_of(number);
+    Step {
+        next: row[at],
+        answer,
+    }
 }
 
 // Writes the record polled back into the bytes that the row was read from, where the turn was not refused.
-pub fn write_back(number: u32, polled: PolledRow, records: &mut [u8]) -> Turned
+pub fn write_back(number: u32, polled: Step, records: &mut [u8]) -> Turned
     requires { ⌜ (length (now records) ≡ 18 * numbers) × (isTurn (polled .answer) ≡ true → number < numbers) ⌝ }
     ensures { λ r. ⌜ Leaves (polled .answer) (writtenBack number polled (now (records .entry))) r (now (records .exit)) ⌝ }
 {
@@ -144,8 +147,8 @@ pub fn write_back(number: u32, polled: PolledRow, records: &mut [u8]) -> Turned
     match answer {
         Turned::Refused(k) => Turned::Refused(k),
         Turned::Turn { due, out } => {
-            let at = number as usize;
-            who::put_station(records, at, polled.row[at]);
+            let next = polled.next;
+            who::put_station(records, number as usize, next);
             Turned::Turn { due, out }
         }
     }

@@ -11,16 +11,16 @@ use Rattle.master.proofs.poll_turn.Tie as tie
 returns : tie.Need-returns
 returns c = polls-refused _ _ _ _ 11 (poll-bad-tables _ _ _ _ (row-missing _ _ (sym (c .before .is-row .ensures .answer) ∙ not-true _ (c .if1 .taken)))) (λ e. omega arith)
 
-row-of-requires : tie.Need-row-of-requires
-row-of-requires c κs = row-is _ (sym (c .before .before .is-row .ensures .answer) ∙ not-false _ (c .before .if1 .left)) .sized
+lend-row-requires : tie.Need-lend-row-requires
+lend-row-requires c κs = row-is _ (sym (c .before .before .before .is-row .ensures .answer) ∙ not-false _ (c .before .before .if1 .left)) .sized
 
 write-back-requires : tie.Need-write-back-requires
 write-back-requires c κs =
-    let stands = sym (c .before .before .before .before .before .before .before .before .is-row .ensures .answer) ∙ not-false _ (c .before .before .before .before .before .before .before .if1 .left) in
-    (row-is _ stands .sized, turn-below _ _ _ _ stands _ (c .before .before .before .before .before .row-of .ensures) _ _ (c .before .before .before .poll-rows .ensures))
+    let stands = sym (c .before .before .before .before .before .before .before .is-row .ensures .answer) ∙ not-false _ (c .before .before .before .before .before .before .if1 .left) in
+    (row-is _ stands .sized, turn-below _ _ _ _ stands _ _ (c .before .before .before .lend-row .ensures))
 
 returns-2 : tie.Need-returns-2
-returns-2 c = polls-written _ _ _ _ (sym (c .before .before .before .before .before .before .before .before .before .before .before .is-row .ensures .answer) ∙ not-false _ (c .before .before .before .before .before .before .before .before .before .before .if1 .left)) _ (c .before .before .before .before .before .before .before .before .row-of .ensures) _ _ (c .before .before .before .before .before .before .poll-rows .ensures) _ _ (c .before .before .write-back .ensures)
+returns-2 c = polls-written _ _ _ _ (sym (c .before .before .before .before .before .before .before .before .before .before .is-row .ensures .answer) ∙ not-false _ (c .before .before .before .before .before .before .before .before .before .if1 .left)) _ _ (c .before .before .before .before .before .before .lend-row .ensures) _ _ (c .before .before .write-back .ensures)
 
 pub poll-turn-spec : {M : Type 1} → statement M
 poll-turn-spec =
@@ -29,8 +29,7 @@ poll-turn-spec =
     (λ c κs. search needs)
     (λ c. search needs)
     returns
-    row-of-requires
-    (λ c κs. search needs)
+    lend-row-requires
     write-back-requires
     (λ c. search needs)
     (λ c. search needs)

@@ -1,14 +1,9 @@
-use Rattle.who.specs.Row.{stationIn}
 use native.Mathlib.Omega.{arith}
 use mathlib.Core.Path.{sym, ap}
 use borrow.Author.Needs.{needs}
 use Rattle.master.proofs.poll.write_back.Statement.{statement}
 use Rattle.master.proofs.poll.write_back.Tie as tie
 use Rattle.master.specs.Inner.{isTurn, writtenBack}
-
-element-copy-out-put-station : tie.Need-element-copy-out-put-station
-unfolding isTurn
-element-copy-out-put-station c = c .before .before .before .before .before .pre .1 (ap isTurn (c .before .before .answer2 .given .1))
 
 put-station-requires : tie.Need-put-station-requires
 unfolding isTurn
@@ -21,7 +16,7 @@ unfolding writtenBack isTurn
 returns c = record { answer = sym (c .before .answer .given .1); left = rw (c .before .answer .given .1) }
 
 returns-2 : tie.Need-returns-2
-unfolding writtenBack isTurn stationIn
+unfolding writtenBack isTurn
 returns-2 c =
     let told = c .before .before .before .before .before .before .answer2 .given .1 in
     record { answer = sym told; left = rw told (c .before .before .put-station .ensures) }
@@ -32,8 +27,6 @@ write-back-spec =
     (tie.spec
     (λ c. search needs)
     (λ c. search needs)
-    (λ c. search needs)
-    element-copy-out-put-station
     put-station-requires
     returns
     (λ c. search needs)
