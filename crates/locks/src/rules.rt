@@ -23,10 +23,10 @@ fn row_good(r: &[u8], word: u64) -> bool
     if r[0] == 0xFF {
         return rows::is_zero(rows::part(r, 1, 15));
     }
-    if !rows::is_bit(word, wide(r[0])) {
+    if !rows::is_bit(word, rows::index_of(r[0])) {
         return false;
     }
-    let len = wide(r[1]);
+    let len = rows::index_of(r[1]);
     if len < 1 {
         return false;
     }
@@ -34,12 +34,6 @@ fn row_good(r: &[u8], word: u64) -> bool
         return false;
     }
     rows::is_zero(rows::part(r, 2 + len, 14 - len))
-}
-
-fn wide(b: u8) -> usize
-    ensures { λ r. ⌜ (r ≡ b) × (r < 256) ⌝ }
-{
-    b as usize
 }
 
 // Each of the first n rows keeps the rules by itself.

@@ -33,12 +33,6 @@ fn is_misplaced(number: u32, code: u8) -> bool
     number == 0
 }
 
-fn wide(b: u8) -> u32
-    ensures { λ r. ⌜ r ≡ b ⌝ }
-{
-    b as u32
-}
-
 // src differs from the number polled, in a frame that reads well.
 fn src_differs(number: u32, frame: &[u8]) -> bool
     requires { ⌜ refusalOf (now frame) ≡ 0 ⌝ }
@@ -46,12 +40,12 @@ fn src_differs(number: u32, frame: &[u8]) -> bool
 {
     let code = frame[0];
     if code::has_address(code) {
-        return wide(frame[2]) != number;
+        return rows::wide(frame[2]) != number;
     }
     if code != code::LOGOUT {
         return false;
     }
-    wide(frame[1]) != number
+    rows::wide(frame[1]) != number
 }
 
 // The first of 1 to 7 that holds, or 0. `read` is what reading the frame refuses: 1, 3, 4 or 6, or 0.

@@ -39,10 +39,17 @@ pub fn fill(s: &mut [u8], n: usize, r: &[u8])
     }
 }
 
-fn wide(b: u8) -> u32
+// A byte as a wider number, and as an index.
+pub fn wide(b: u8) -> u32
     ensures { λ r. ⌜ (r ≡ b) × (r < 256) ⌝ }
 {
     b as u32
+}
+
+pub fn index_of(b: u8) -> usize
+    ensures { λ r. ⌜ (r ≡ b) × (r < 256) ⌝ }
+{
+    b as usize
 }
 
 // The number in two bytes, low byte first.

@@ -14,12 +14,6 @@ pub struct Played {
     pub used: usize,
 }
 
-fn wide(b: u8) -> usize
-    ensures { λ r. ⌜ (r ≡ b) × (r < 256) ⌝ }
-{
-    b as usize
-}
-
 // The bytes of the record at `at`, 0 where it is not whole.
 fn record_size(input: &[u8], at: usize) -> usize
     requires { ⌜ at ≤ length (now input) ⌝ }
@@ -29,7 +23,7 @@ fn record_size(input: &[u8], at: usize) -> usize
     if left < 2 {
         return 0;
     }
-    let size = 2 + wide(input[at + 1]);
+    let size = 2 + rows::index_of(input[at + 1]);
     if left < size {
         return 0;
     }

@@ -14,17 +14,11 @@ pub fn name_hash(name: &[u8]) -> usize
     rows::marks::hash(rows::four_at(name, 0), rows::four_at(name, 4), 0, 0)
 }
 
-fn wide(b: u8) -> usize
-    ensures { λ r. ⌜ (r ≡ b) × (r < 256) ⌝ }
-{
-    b as usize
-}
-
 // The hash of volume and number of partition row i, one for each pair in range.
 pub fn number_hash(file: &[u8], from: usize, i: usize) -> usize
     requires { ⌜ (from ≡ partitionsFrom (now file)) × (from + 24 * i + 24 ≤ length (now file)) ⌝ }
     ensures { λ r. ⌜ (r ≡ numberHash (now (file .entry)) i) × (r < 256) ⌝ }
 {
     let at = from + layout::PARTITION * i;
-    (64 * wide(file[at + 14]) + wide(file[at + 15])) % 256
+    (64 * rows::index_of(file[at + 14]) + rows::index_of(file[at + 15])) % 256
 }

@@ -14,12 +14,6 @@ ghost use Rattle.site.specs.Layout.{partitionsFrom, partitionRow};
 ghost use Rattle.site.specs.Rules.{ranged, apart};
 ghost use Rattle.site.specs.Shortcuts.{past, passing, Below};
 
-fn wide(b: u8) -> usize
-    ensures { λ r. ⌜ r ≡ b ⌝ }
-{
-    b as usize
-}
-
 fn later(a: u32, b: u32) -> u32
     ensures { λ r. ⌜ r ≡ max a b ⌝ }
 {
@@ -31,7 +25,7 @@ fn pass(ends: &mut [u32; 4], r: PartitionRow) -> bool
     requires { ⌜ ranged r ≡ true ⌝ }
     ensures { λ b. ⌜ (b ≡ past (now (ends .entry)) r) × (now (ends .exit) ≡ passing (now (ends .entry)) r) ⌝ }
 {
-    let volume = wide(r.volume.0);
+    let volume = rows::index_of(r.volume.0);
     let first = r.first;
     let end = first + sizes::sectors(r.size);
     let old = ends[volume];
@@ -48,7 +42,7 @@ fn walk(file: &[u8], from: usize, n: usize, order: &[u8]) -> bool
     let mut ends = [0u32; 4];
     let mut k: usize = 0;
     while k < n {
-        let row = layout::row_of(file, from, wide(order[k]));
+        let row = layout::row_of(file, from, rows::index_of(order[k]));
         if !pass(&mut ends, row) {
             return false;
         }

@@ -12,18 +12,12 @@ ghost use Rattle.terms.specs.Strings.{normal};
 ghost use Rattle.station.specs.State.{placeString, unused};
 ghost use Rattle.station.specs.Good.{goodPlace, goodAt, inFront, aloneAt, goodWait};
 
-fn wide(b: u8) -> usize
-    ensures { λ r. ⌜ r ≡ b ⌝ }
-{
-    b as usize
-}
-
 // A place by itself: unused and zero, or a legal string with zeros after it.
 fn place_good(r: &[u8]) -> bool
     requires { ⌜ length (now r) ≡ 14 ⌝ }
     ensures { λ b. ⌜ b ≡ goodPlace (now (r .entry)) ⌝ }
 {
-    let len = wide(r[0]);
+    let len = rows::index_of(r[0]);
     if len == 0 {
         return rows::is_zero(r);
     }

@@ -85,12 +85,6 @@ fn key_at(bytes: &[u8], at: usize) -> &[u8]
     rows::part(bytes, at + 1, used(bytes[at]))
 }
 
-fn wide(b: u8) -> u32
-    ensures { λ r. ⌜ r ≡ b ⌝ }
-{
-    b as u32
-}
-
 // The hash of the string that stands at `at`: of its thirteen bytes, those after its length too.
 fn hash_at(bytes: &[u8], at: usize) -> usize
     requires { ⌜ at + 14 ≤ length (now bytes) ⌝ }
@@ -99,7 +93,7 @@ fn hash_at(bytes: &[u8], at: usize) -> usize
     let a = rows::four_at(bytes, at + 1);
     let b = rows::four_at(bytes, at + 5);
     let c = rows::four_at(bytes, at + 9);
-    rows::marks::hash(a, b, c, wide(bytes[at + 13]))
+    rows::marks::hash(a, b, c, rows::wide(bytes[at + 13]))
 }
 
 // The string with zeros after its length.

@@ -11,7 +11,7 @@ returns c =
     let second = third .before in
     let first = second .before in
     let a = first .before .before .args in
-    (c .hash .ensures .0 ∙ rw (first .four-at .ensures, second .four-at2 .ensures, third .four-at3 .ensures, c .before .wide .ensures) (sym (hash-string (now (a .bytes)) (a .at))), c .hash .ensures .1)
+    (c .hash .ensures .0 ∙ rw (first .four-at .ensures, second .four-at2 .ensures, third .four-at3 .ensures, c .before .wide .ensures .0) (sym (hash-string (now (a .bytes)) (a .at))), c .hash .ensures .1)
 
 pub hash-at-spec : {M : Type 1} → statement M
 hash-at-spec =

@@ -22,7 +22,7 @@ returns-2 c =
     let first = c .before .before in
     let used = first .before .before in
     let word = used .before .before .before .args .word in
-    rw (ne-eqb _ _ (used .if1 .left), sym (ap (bitAt word) (first .wide .ensures .0)) ∙ sym (c .before .is-bit .ensures .answer) ∙ not-true _ (c .if2 .taken))
+    rw (ne-eqb _ _ (used .if1 .left), sym (ap (bitAt word) (first .index-of .ensures .0)) ∙ sym (c .before .is-bit .ensures .answer) ∙ not-true _ (c .if2 .taken))
 
 returns-3 : tie.Need-returns-3
 unfolding soundRow isFree owner legal stringOf stringAt
@@ -31,7 +31,7 @@ returns-3 c =
     let first = known .before .before in
     let used = first .before .before in
     let word = used .before .before .before .args .word in
-    rw (ne-eqb _ _ (used .if1 .left), sym (ap (bitAt word) (first .wide .ensures .0)) ∙ sym (known .before .is-bit .ensures .answer) ∙ not-false _ (known .if2 .left), lt-leb 1 _ (rw (c .before .wide2 .ensures .0) at (c .if3 .taken)))
+    rw (ne-eqb _ _ (used .if1 .left), sym (ap (bitAt word) (first .index-of .ensures .0)) ∙ sym (known .before .is-bit .ensures .answer) ∙ not-false _ (known .if2 .left), lt-leb 1 _ (rw (c .before .index-of2 .ensures .0) at (c .if3 .taken)))
 
 returns-4 : tie.Need-returns-4
 unfolding soundRow isFree owner legal stringOf stringAt
@@ -41,8 +41,8 @@ returns-4 c =
     let first = known .before .before in
     let used = first .before .before in
     let word = used .before .before .before .args .word in
-    let len = long .before .wide2 .ensures .0 in
-    rw (ne-eqb _ _ (used .if1 .left), sym (ap (bitAt word) (first .wide .ensures .0)) ∙ sym (known .before .is-bit .ensures .answer) ∙ not-false _ (known .if2 .left), le-leb 1 _ (rw len at (long .if3 .left)), lt-leb _ 13 (rw len at (c .if4 .taken)))
+    let len = long .before .index-of2 .ensures .0 in
+    rw (ne-eqb _ _ (used .if1 .left), sym (ap (bitAt word) (first .index-of .ensures .0)) ∙ sym (known .before .is-bit .ensures .answer) ∙ not-false _ (known .if2 .left), le-leb 1 _ (rw len at (long .if3 .left)), lt-leb _ 13 (rw len at (c .if4 .taken)))
 
 returns-5 : tie.Need-returns-5
 unfolding soundRow isFree owner legal stringOf stringAt
@@ -53,9 +53,9 @@ returns-5 c =
     let first = known .before .before in
     let used = first .before .before in
     let a = used .before .before .before .args in
-    let len = long .before .wide2 .ensures .0 in
+    let len = long .before .index-of2 .ensures .0 in
     let r = now (a .r) in
-    rw (ne-eqb _ _ (used .if1 .left), sym (ap (bitAt (a .word)) (first .wide .ensures .0)) ∙ sym (known .before .is-bit .ensures .answer) ∙ not-false _ (known .if2 .left), le-leb 1 _ (rw len at (long .if3 .left)), le-leb _ 13 (rw len at (short .if4 .left)))
+    rw (ne-eqb _ _ (used .if1 .left), sym (ap (bitAt (a .word)) (first .index-of .ensures .0)) ∙ sym (known .before .is-bit .ensures .answer) ∙ not-false _ (known .if2 .left), le-leb 1 _ (rw len at (long .if3 .left)), le-leb _ 13 (rw len at (short .if4 .left)))
     (c .is-zero2 .ensures .answer ∙ ap zeros (c .before .part2 .ensures ∙ ap (λ (k : ℕ). part r (2 + k) (14 - k)) len))
 
 pub row-good-spec : {M : Type 1} → statement M

@@ -17,7 +17,7 @@ shared-slice-read-wide c = omega (arith, well-is _ (c .before .before .before .b
 
 returns : tie.Need-returns
 unfolding srcDiffers
-returns c = rw (sym (c .before .before .before .has-address .ensures .answer) ∙ c .before .before .if1 .taken, c .wide .ensures)
+returns c = rw (sym (c .before .before .before .has-address .ensures .answer) ∙ c .before .before .if1 .taken, c .wide .ensures .0)
 
 returns-2 : tie.Need-returns-2
 unfolding srcDiffers
@@ -29,7 +29,7 @@ shared-slice-read-wide-2 c = let out = c .before .if2 .left in omega (arith, wel
 
 returns-3 : tie.Need-returns-3
 unfolding srcDiffers
-returns-3 c = rw (sym (c .before .before .before .before .has-address .ensures .answer) ∙ c .before .before .before .if1 .left, eq-eqb _ _ (c .before .before .if2 .left), c .wide2 .ensures)
+returns-3 c = rw (sym (c .before .before .before .before .has-address .ensures .answer) ∙ c .before .before .before .if1 .left, eq-eqb _ _ (c .before .before .if2 .left), c .wide2 .ensures .0)
 
 pub src-differs-spec : {M : Type 1} → statement M
 src-differs-spec =

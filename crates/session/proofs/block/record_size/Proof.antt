@@ -11,11 +11,11 @@ returns : tie.Need-returns
 returns c = size-none _ (rw length-drop (c .if1 .taken))
 
 returns-2 : tie.Need-returns-2
-returns-2 c = let size = size-at (now (c .before .before .before .before .before .args .input)) (c .before .before .before .before .before .args .at) _ (c .before .wide .ensures .0) in
+returns-2 c = let size = size-at (now (c .before .before .before .before .before .args .input)) (c .before .before .before .before .before .args .at) _ (c .before .index-of .ensures .0) in
     size-short _ (rw (← size, length-drop) (c .if2 .taken))
 
 returns-3 : tie.Need-returns-3
-returns-3 c = let size = size-at (now (c .before .before .before .before .before .args .input)) (c .before .before .before .before .before .args .at) _ (c .before .wide .ensures .0) in
+returns-3 c = let size = size-at (now (c .before .before .before .before .before .args .input)) (c .before .before .before .before .before .args .at) _ (c .before .index-of .ensures .0) in
     size ∙ size-full _ (rw (← size, length-drop) (c .if2 .left))
 
 pub record-size-spec : {M : Type 1} → statement M

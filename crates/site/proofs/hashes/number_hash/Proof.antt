@@ -9,7 +9,7 @@ use Rattle.site.proofs.hashes.number_hash.Tie as tie
 returns : tie.Need-returns
 unfolding numberHash rowAt
 returns c =
-    (rw (sym (c .before .before .before .before .before .pre .0), c .before .before .wide .ensures .0, c .wide2 .ensures .0), omega arith)
+    (rw (sym (c .before .before .before .before .before .pre .0), c .before .before .index-of .ensures .0, c .index-of2 .ensures .0), omega arith)
 
 pub number-hash-spec : {M : Type 1} → statement M
 number-hash-spec =

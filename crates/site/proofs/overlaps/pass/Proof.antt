@@ -12,14 +12,14 @@ add-end : tie.Need-add-end
 add-end c = omega (arith, ranged-is _ (c .before .before .pre) .ends, c .sectors .ensures .0)
 
 element-copy-out-old : tie.Need-element-copy-out-old
-element-copy-out-old c = omega (arith, ranged-is _ (c .before .before .pre) .volume, c .before .wide .ensures)
+element-copy-out-old c = omega (arith, ranged-is _ (c .before .before .pre) .volume, c .before .index-of .ensures .0)
 
 element-write-ends : tie.Need-element-write-ends
-element-write-ends c = omega (arith, ranged-is _ (c .before .before .before .before .pre) .volume, c .before .before .before .wide .ensures)
+element-write-ends c = omega (arith, ranged-is _ (c .before .before .before .before .pre) .volume, c .before .before .before .index-of .ensures .0)
 
 returns : tie.Need-returns
 unfolding past passing
-returns c = (rw (c .before .before .before .wide .ensures), rw (c .later .ensures, c .before .before .sectors .ensures .0, c .before .before .before .wide .ensures))
+returns c = (rw (c .before .before .before .index-of .ensures .0), rw (c .later .ensures, c .before .before .sectors .ensures .0, c .before .before .before .index-of .ensures .0))
 
 pub pass-spec : {M : Type 1} → statement M
 pass-spec =

@@ -26,14 +26,14 @@ row-of-requires : tie.Need-row-of-requires Inv-loop μ-loop
 row-of-requires c κs =
     let turn = c .before .before .before in
     let start = turn .before .before .before in
-    (start .pre .0 .0, omega (arith, c .wide .ensures, start .pre .1 .1 (turn .loop .k) (omega arith)))
+    (start .pre .0 .0, omega (arith, c .index-of .ensures .0, start .pre .1 .1 (turn .loop .k) (omega arith)))
 
 pass-requires : tie.Need-pass-requires Inv-loop μ-loop
 pass-requires c κs =
     let row = c .before in
     let turn = row .before .before .before .before in
     let start = turn .before .before .before in
-    ap ranged (row .row-of .ensures) ∙ start .pre .1 .0 (row .before .wide .result) (omega (arith, row .before .wide .ensures, start .pre .1 .1 (turn .loop .k) (omega arith)))
+    ap ranged (row .row-of .ensures) ∙ start .pre .1 .0 (row .before .index-of .result) (omega (arith, row .before .index-of .ensures .0, start .pre .1 .1 (turn .loop .k) (omega arith)))
 
 returns : tie.Need-returns Inv-loop μ-loop
 returns c = λ lie. both lie refl
@@ -46,7 +46,7 @@ loop-again c =
     let start = turn .before .before .before in
     let file = now (start .args .file) in
     let at = getD (now (start .args .order)) (turn .loop .k) 0 in
-    let is : row .row-of .result ≡ partitionRow file at = row .row-of .ensures ∙ ap (λ (i : ℕ). partitionRow file i) (read .wide .ensures) in
+    let is : row .row-of .result ≡ partitionRow file at = row .row-of .ensures ∙ ap (λ (i : ℕ). partitionRow file i) (read .index-of .ensures .0) in
     let begins : past (turn .loop .ends) (partitionRow file at) ≡ true = sym (ap (past (turn .loop .ends)) is) ∙ sym (c .before .pass .ensures .0) ∙ not-false _ (c .if1 .left) in
     (omega arith, walk-on file _ (turn .loop .ends) (turn .loop .inv .1) begins (start .pre .1 .0 at (start .pre .1 .1 (turn .loop .k) (omega arith))) (c .before .pass .ensures .1 ∙ ap (passing (turn .loop .ends)) is))
 

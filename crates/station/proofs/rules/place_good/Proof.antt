@@ -15,17 +15,17 @@ use Rattle.station.proofs.rules.place_good.Tie as tie
 
 returns : tie.Need-returns
 unfolding goodPlace
-returns c = rw (eq-eqb _ _ (sym (c .before .before .wide .ensures) ∙ c .before .if1 .taken)) (c .is-zero .ensures .answer)
+returns c = rw (eq-eqb _ _ (sym (c .before .before .index-of .ensures .0) ∙ c .before .if1 .taken)) (c .is-zero .ensures .answer)
 
 returns-2 : tie.Need-returns-2
 unfolding goodPlace legal placeString stringAt
-returns-2 c = let len = c .before .before .wide .ensures in
+returns-2 c = let len = c .before .before .index-of .ensures .0 in
     let used : 1 ≤ getD (now (c .before .before .before .before .before .args .r)) 0 0 = omega arith in
     rw (ne-eqb _ _ (λ e. c .before .if1 .left (len ∙ e)), le-leb 1 _ used, lt-leb _ 13 (rw len at (c .if2 .taken)))
 
 returns-3 : tie.Need-returns-3
 unfolding goodPlace legal placeString stringAt
-returns-3 c = let len = c .before .before .before .before .wide .ensures in
+returns-3 c = let len = c .before .before .before .before .index-of .ensures .0 in
     let r = now (c .before .before .before .before .before .before .before .args .r) in
     let used : 1 ≤ getD r 0 0 = omega arith in
     rw (ne-eqb _ _ (λ e. c .before .before .before .if1 .left (len ∙ e)), le-leb 1 _ used, le-leb _ 13 (rw len at (c .before .before .if2 .left)))
