@@ -14,6 +14,7 @@ use borrow.Author.Tests.{eqb-true, eq-eqb}
 use Rattle.rows.proofs.BoolLaws.{by-test, by-eq, both}
 use Rattle.rows.proofs.IndexLaws.{none-from}
 use Rattle.rows.specs.Words.{any}
+use Rattle.rows.specs.Numbers.{bitAt}
 use Rattle.rows.specs.Marks.{marked, marking}
 
 -- the lowest bit of `a or b`, and bit j
@@ -25,17 +26,15 @@ or-odd a b =
 or-bit : (a b j : ℕ) → bitOr a b / 2 ^ j % 2 ≡ max (a / 2 ^ j % 2) (b / 2 ^ j % 2)
 or-bit a b j = ap (λ (x : ℕ). x % 2) (or-shr a b j) ∙ or-odd (a / 2 ^ j) (b / 2 ^ j)
 
-or-keeps : (a b j : ℕ) → a / 2 ^ j % 2 ≡ 1 → bitOr a b / 2 ^ j % 2 ≡ 1
-or-keeps a b j h = omega (arith, or-bit a b j)
+or-keeps : (a b j : ℕ) → bitAt a j ≡ true → bitAt (bitOr a b) j ≡ true
+unfolding bitAt
+or-keeps a b j h = let odd : a / 2 ^ j % 2 ≡ 1 = eqb-true _ _ h in eq-eqb (bitOr a b / 2 ^ j % 2) 1 (omega (arith, or-bit a b j))
 
-or-sets : (a j : ℕ) → bitOr a (2 ^ j) / 2 ^ j % 2 ≡ 1
+or-sets : (a j : ℕ) → bitAt (bitOr a (2 ^ j)) j ≡ true
+unfolding bitAt
 or-sets a j =
     let one : 2 ^ j / 2 ^ j % 2 ≡ 1 = ap (λ (x : ℕ). x % 2) (div-self (pow-pos j)) in
-    omega (arith, or-bit a (2 ^ j) j)
-
--- bit j of a word
-abbrev bit : ℕ → ℕ → ℕ
-bit a j = a / 2 ^ j % 2
+    eq-eqb (bitOr a (2 ^ j) / 2 ^ j % 2) 1 (omega (arith, or-bit a (2 ^ j) j))
 
 -- what is marked is marked, and a mark stays
 module _ (map : List ℕ) (h : ℕ) (inside : h / 32 < length map) where
@@ -47,13 +46,13 @@ module _ (map : List ℕ) (h : ℕ) (inside : h / 32 < length map) where
 
   pub mark-here : marked (marking map h) h ≡ true
   unfolding marked marking
-  mark-here = eq-eqb _ _ (ap (λ (a : ℕ). bit a (h % 32)) here ∙ or-sets (getD map (h / 32) 0) (h % 32))
+  mark-here = ap (λ (a : ℕ). bitAt a (h % 32)) here ∙ or-sets (getD map (h / 32) 0) (h % 32)
 
   pub mark-stays : (g : ℕ) → marked map g ≡ true → marked (marking map h) g ≡ true
   unfolding marked marking
-  mark-stays g m = eq-eqb _ _ (by-eq (g / 32) (h / 32)
-      (λ (e : g / 32 ≡ h / 32). ap (λ (k : ℕ). bit (getD (set map (h / 32) word) k 0) (g % 32)) e ∙ ap (λ (a : ℕ). bit a (g % 32)) here ∙ or-keeps (getD map (h / 32) 0) (2 ^ (h % 32)) (g % 32) (ap (λ (k : ℕ). bit (getD map k 0) (g % 32)) (sym e) ∙ eqb-true _ _ m))
-      (λ ne. ap (λ (a : ℕ). bit a (g % 32)) (getD-set-other map (h / 32) (g / 32) word 0 ne) ∙ eqb-true _ _ m))
+  mark-stays g m = by-eq (g / 32) (h / 32)
+      (λ (e : g / 32 ≡ h / 32). ap (λ (k : ℕ). bitAt (getD (set map (h / 32) word) k 0) (g % 32)) e ∙ ap (λ (a : ℕ). bitAt a (g % 32)) here ∙ or-keeps (getD map (h / 32) 0) (2 ^ (h % 32)) (g % 32) (ap (λ (k : ℕ). bitAt (getD map k 0) (g % 32)) (sym e) ∙ m))
+      (λ ne. ap (λ (a : ℕ). bitAt a (g % 32)) (getD-set-other map (h / 32) (g / 32) word 0 ne) ∙ m)
 
 -- the invariant of a loop that marks the hash of each row, in a map of n words: below i, all are marked
 abbrev pub Marked : ℕ → (ℕ → ℕ) → List ℕ → ℕ → Type 0

@@ -3,12 +3,12 @@ use Prim.Native.Nat.{ℕ, _+_, _*_, _/_, _%_, _^_}
 use mathlib.Core.Bool.{Bool}
 use mathlib.Core.List.{List}
 use lib.Bits.{bitOr}
-use lib.Dec.{eqb}
 use lib.ListN.{getD, set}
+use Rattle.rows.specs.Numbers.{bitAt}
 
 -- bit h is set
 unfoldable pub marked : List ℕ → ℕ → Bool
-marked map h = eqb (getD map (h / 32) 0 / 2 ^ (h % 32) % 2) 1
+marked map h = bitAt (getD map (h / 32) 0) (h % 32)
 
 -- the map with bit h set
 unfoldable pub marking : List ℕ → ℕ → List ℕ

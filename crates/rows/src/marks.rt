@@ -30,5 +30,5 @@ pub fn mark(map: &mut [u32], h: usize) -> bool
     let j = h % 32;
     let old = map[k];
     map[k] = old | bit(j);
-    (old >> j) % 2 == 1
+    crate::is_bit(old as u64, j)
 }
