@@ -13,7 +13,8 @@ use Rattle.terms.specs.Strings.{sameString}
 use Rattle.terms.proofs.StringLaws.{same-string-sym, same-string-trans}
 use Rattle.locks.specs.Table.{rowCount}
 use Rattle.locks.specs.Holding.{has}
-use Rattle.locks.proofs.LockRowLaws.{holds-is}
+use Rattle.terms.proofs.TableLaws.{holds-is}
+use Rattle.locks.specs.Row.{lockRows}
 use Rattle.locks.proofs.HoldingLaws.{rowBy, has-row}
 use Rattle.station.specs.State.{placeString, isListed, listed}
 use Rattle.station.proofs.GoodLaws.{Good}
@@ -62,8 +63,8 @@ held-few t k m z held one = no-more m (rowCount t) (λ i. rowBy t k (z i))
   where
     same-row : (i j : ℕ) → i < m → j < m → rowBy t k (z i) ≡ rowBy t k (z j) → sameString (z i) (z j) ≡ true
     same-row i j b c e =
-        let p = holds-is (z i) _ (has-row t k (z i) (held i b) .1 .held) .string in
-        let q = holds-is (z j) _ (has-row t k (z j) (held j c) .1 .held) .string in
+        let p = holds-is lockRows (z i) _ (has-row t k (z i) (held i b) .1 .held) .string in
+        let q = holds-is lockRows (z j) _ (has-row t k (z j) (held j c) .1 .held) .string in
         same-string-trans (z i) _ (z j) (same-string-sym _ (z i) p) (rw e q)
 
 -- a list that is held whole, and one string more: they fit into the rows of the table

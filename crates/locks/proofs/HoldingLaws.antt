@@ -14,25 +14,27 @@ use Rattle.rows.proofs.IndexLaws.{any-at, first-found, any-same, any-and, any-s
 use Rattle.terms.specs.declared.LockString.{LockString}
 use Rattle.terms.specs.Strings.{legal, sameString}
 use Rattle.terms.proofs.StringLaws.{legal-same, same-string-refl, same-string-sym, same-string-trans}
-use Rattle.locks.specs.Row.{owner, stringOf, freeRow, holds}
+use Rattle.terms.specs.Tables.{holds, rowIn, rowHolds}
+use Rattle.terms.proofs.TableLaws.{holds-is, holds-same, free-holds}
+use Rattle.locks.specs.Row.{owner, lockRows, stringOf, freeRow}
 use Rattle.locks.specs.Table.{rowCount, holdsAt, freeAt, ownerAt, heldAt, isHeld, isOwn, lockStatus, lockTable, unlocks, unlockStatus, unlockTable, clearedTable}
 use Rattle.locks.specs.Holding.{hasAt, has}
-use Rattle.locks.proofs.LockRowLaws.{holds-is, holds-same, free-holds, free-free, owner-rowOf, holds-rowOf, GoodUsed, good-used}
+use Rattle.locks.proofs.LockRowLaws.{free-free, owner-rowOf, holds-rowOf, GoodUsed, good-used}
 use Rattle.locks.proofs.Cases.{lock-illegal, lock-own, lock-other, lock-full, lock-granted}
 use Rattle.locks.proofs.TableLaws.{Fills, Frees, held-row, row-held, own-row, lock-fills, unlock-frees, clear-frees}
 use Rattle.locks.proofs.GoodLaws.{Good}
 
 -- a row that holds x in the name of a
 pub record HeldBy (t : List ℕ) (a : ℕ) (x : LockString) (i : ℕ) : Type 0 where
-  pub held : holds x (row 16 t i) ≡ true
+  pub held : holds lockRows x (row 16 t i) ≡ true
   pub owned : owner (row 16 t i) ≡ a
 
 module _ (t : List ℕ) (a : ℕ) (x : LockString) where
   held-by : (i : ℕ) → hasAt t a x i ≡ true → HeldBy t a x i
-  unfolding hasAt holdsAt ownerAt
+  unfolding hasAt rowIn rowHolds ownerAt
   held-by i h = record {
-    held = and-left (holds x (row 16 t i)) (eqb (owner (row 16 t i)) a) h;
-    owned = eqb-true _ _ (and-right (holds x (row 16 t i)) (eqb (owner (row 16 t i)) a) h);
+    held = and-left (holds lockRows x (row 16 t i)) (eqb (owner (row 16 t i)) a) h;
+    owned = eqb-true _ _ (and-right (holds lockRows x (row 16 t i)) (eqb (owner (row 16 t i)) a) h);
   }
 
   -- the first such row
@@ -44,7 +46,7 @@ module _ (t : List ℕ) (a : ℕ) (x : LockString) where
   has-row h = let found = first-found (hasAt t a x) (rowCount t) h in (found .0, held-by rowBy (found .1))
 
   pub row-has : (i : ℕ) → i < rowCount t → HeldBy t a x i → has t a x ≡ true
-  unfolding has hasAt holdsAt ownerAt
+  unfolding has hasAt rowIn rowHolds ownerAt
   row-has i l h = any-at (hasAt t a x) (rowCount t) i l (and-both (h .held) (eq-eqb _ _ (h .owned)))
 
 -- a string that is held has an owner
@@ -58,12 +60,12 @@ module _ (t : List ℕ) (x : LockString) where
 
 -- a string is held where one that is the same is, and by whoever holds that
 pub held-same : (t : List ℕ) (a b : LockString) → sameString a b ≡ true → isHeld t a ≡ isHeld t b
-unfolding isHeld holdsAt
-held-same t a b h = any-same (holdsAt t b) (holdsAt t a) (rowCount t) (λ i l. holds-same a b (row 16 t i) h)
+unfolding isHeld rowIn rowHolds
+held-same t a b h = any-same (holdsAt t b) (holdsAt t a) (rowCount t) (λ i l. holds-same lockRows a b (row 16 t i) h)
 
 pub has-same : (t : List ℕ) (who : ℕ) (a b : LockString) → sameString a b ≡ true → has t who a ≡ has t who b
-unfolding has hasAt holdsAt
-has-same t who a b h = any-same (hasAt t who b) (hasAt t who a) (rowCount t) (λ i l. ap (λ (c : Bool). c && eqb (ownerAt t i) who) (holds-same a b (row 16 t i) h))
+unfolding has hasAt rowIn rowHolds
+has-same t who a b h = any-same (hasAt t who b) (hasAt t who a) (rowCount t) (λ i l. ap (λ (c : Bool). c && eqb (ownerAt t i) who) (holds-same lockRows a b (row 16 t i) h))
 
 -- in a good table
 module _ {n : ℕ} {w : ℕ → Bool} {t : List ℕ} (g : Good n w t) where
@@ -82,13 +84,13 @@ module _ {n : ℕ} {w : ℕ → Bool} {t : List ℕ} (g : Good n w t) where
   -- whoever holds a string is logged in and is no FF, and the string is legal
   module _ (a : ℕ) (x : LockString) (h : has t a x ≡ true) where
     used-row : GoodUsed w (row 16 t (rowBy t a x))
-    used-row = let r = has-row t a x h in good-used w _ (g .each (rowBy t a x) (within (r .0))) (holds-is x _ (r .1 .held) .used)
+    used-row = let r = has-row t a x h in good-used w _ (g .each (rowBy t a x) (within (r .0))) (holds-is lockRows x _ (r .1 .held) .used)
 
     pub held-in : w a ≡ true
     held-in = subst (λ (b : ℕ). w b ≡ true) (has-row t a x h .1 .owned) (used-row .inside)
 
     pub held-legal : legal x ≡ true
-    held-legal = sym (legal-same _ x (holds-is x _ (has-row t a x h .1 .held) .string)) ∙ used-row .lawful
+    held-legal = sym (legal-same _ x (holds-is lockRows x _ (has-row t a x h .1 .held) .string)) ∙ used-row .lawful
 
   -- the sender's own is what the sender has
   pub own-is : (who : ℕ) (s : LockString) → isOwn t who s ≡ has t who s
@@ -98,11 +100,11 @@ module _ {n : ℕ} {w : ℕ → Bool} {t : List ℕ} (g : Good n w t) where
       (λ h. let o = has-held t s who h in and-both o (eq-eqb _ _ (one-holder _ who s (held-has t s o) h)))
 
 -- who has what after a free row was filled
-pub fills-has : {k : ℕ} {r t t′ : List ℕ} → Fills k r t t′ → (a : ℕ) (x : LockString) → has t′ a x ≡ (has t a x || (holds x r && eqb (owner r) a))
-unfolding has hasAt holdsAt ownerAt
+pub fills-has : {k : ℕ} {r t t′ : List ℕ} → Fills k r t t′ → (a : ℕ) (x : LockString) → has t′ a x ≡ (has t a x || (holds lockRows x r && eqb (owner r) a))
+unfolding has hasAt rowIn rowHolds ownerAt
 fills-has {k} {r} {t} {t′} f a x =
     rw (f .long)
-    (any-set (hasAt t a x) (hasAt t′ a x) (rowCount t) k (f .inside) (rw (free-holds x (row 16 t k) (f .was))) (λ i l ne. rw (f .there i ne))
+    (any-set (hasAt t a x) (hasAt t′ a x) (rowCount t) k (f .inside) (rw (free-holds lockRows x (row 16 t k) (f .was))) (λ i l ne. rw (f .there i ne))
     ∙ rw (f .here))
 
 -- a row that was freed or not, where a test of rows tells which
@@ -114,11 +116,11 @@ struck p free r false true h = sym (refuted (p r) (λ y. true≢false (sym (h y)
 
 -- who has what after rows were freed, where c tells whether those that hold x in the name of a are among them
 pub frees-has : {f : ℕ → Bool} {t t′ : List ℕ} → Frees f t t′ → (a : ℕ) (x : LockString) (c : Bool) → ((i : ℕ) → i < rowCount t → HeldBy t a x i → f i ≡ c) → has t′ a x ≡ (has t a x && not c)
-unfolding has hasAt holdsAt ownerAt
+unfolding has hasAt rowIn rowHolds ownerAt
 frees-has {f} {t} {t′} h a x c tells =
     rw (h .long)
     (any-and (hasAt t a x) (hasAt t′ a x) (rowCount t) (not c) (λ i l.
-    rw (h .rows i l) (struck (λ r. holds x r && eqb (owner r) a) (rw (free-holds x freeRow free-free)) (row 16 t i) (f i) c (λ y. tells i l (held-by t a x i y)))))
+    rw (h .rows i l) (struck (λ r. holds lockRows x r && eqb (owner r) a) (rw (free-holds lockRows x freeRow free-free)) (row 16 t i) (f i) c (λ y. tells i l (held-by t a x i y)))))
 
 -- after a grant the sender has the string too, and all else is as it was
 pub has-granted : (t : List ℕ) (who : ℕ) (s : LockString) → legal s ≡ true → isHeld t s ≡ false → any (freeAt t) (rowCount t) ≡ true
@@ -176,9 +178,9 @@ module _ {n : ℕ} {w : ℕ → Bool} {t : List ℕ} (g : Good n w t) (who : ℕ
       and-both
       (eq-eqb a who (sym (h .owned) ∙ ap (λ (j : ℕ). owner (row 16 t j)) e ∙ o .1))
       (same-string-trans s (stringOf (row 16 t k)) x
-      (same-string-sym _ s (holds-is s (row 16 t k) (r .1) .string))
-      (subst (λ (j : ℕ). sameString (stringOf (row 16 t j)) x ≡ true) e (holds-is x (row 16 t i) (h .held) .string))))
-      (λ b. eq-eqb i k (g .one-row s i k (within g l) (within g (r .0)) (holds-same s x (row 16 t i) (and-right (eqb a who) (sameString s x) b) ∙ h .held) (r .1)))
+      (same-string-sym _ s (holds-is lockRows s (row 16 t k) (r .1) .string))
+      (subst (λ (j : ℕ). sameString (stringOf (row 16 t j)) x ≡ true) e (holds-is lockRows x (row 16 t i) (h .held) .string))))
+      (λ b. eq-eqb i k (g .one-row s i k (within g l) (within g (r .0)) (holds-same lockRows s x (row 16 t i) (and-right (eqb a who) (sameString s x) b) ∙ h .held) (r .1)))
 
   -- after an unlock the sender lacks the string, and all else is as it was
   pub has-unlocked : (a : ℕ) (x : LockString) → has (unlockTable t who s) a x ≡ (has t a x && not (unlocks t who s && (eqb a who && sameString s x)))

@@ -12,18 +12,20 @@ use Rattle.rows.proofs.BoolLaws.{by-test, by-eq, both, and-left, and-right}
 use Rattle.rows.proofs.RowLaws.{length-copies, row-copies}
 use Rattle.terms.specs.declared.LockString.{LockString}
 use Rattle.terms.proofs.StringLaws.{same-string-refl}
-use Rattle.locks.specs.Row.{owner, stringOf, freeRow, holds}
+use Rattle.terms.specs.Tables.{holds}
+use Rattle.terms.proofs.TableLaws.{is-holds, free-holds}
+use Rattle.locks.specs.Row.{owner, lockRows, stringOf, freeRow}
 use Rattle.locks.specs.Table.{isHeld, lockStatus, lockTable, unlockTable, clearedTable}
 use Rattle.locks.specs.Good.{soundRow, locks, soundRows, freshLocks}
 use Rattle.locks.specs.Holding.{has}
-use Rattle.locks.proofs.LockRowLaws.{is-holds, free-holds, free-free, free-good, good-rowOf, good-beside, holds-rowOf}
+use Rattle.locks.proofs.LockRowLaws.{free-free, free-good, good-rowOf, good-beside, holds-rowOf}
 use Rattle.locks.proofs.TableLaws.{Fills, Frees, row-held, lock-fills, unlock-frees, clear-frees}
 use Rattle.locks.proofs.GoodLaws.{Good, good-is, is-good}
 use Rattle.locks.proofs.HoldingLaws.{row-has, held-same, held-in, has-cleared, LockCase, illegal, own, other, full, granted, lock-case}
 
 -- a free row is filled with a good row, whose string nobody holds
-module _ {n k : ℕ} {w : ℕ → Bool} {r t t′ : List ℕ} (f : Fills k r t t′) (good : soundRow w r ≡ true) (new : (x : LockString) → holds x r ≡ true → isHeld t x ≡ false) (g : Good n w t) where
-  clash : (x : LockString) (i j : ℕ) → i ≡ k → (j ≡ k → ⊥) → j < n → holds x (row 16 t′ i) ≡ true → holds x (row 16 t′ j) ≡ true → ⊥
+module _ {n k : ℕ} {w : ℕ → Bool} {r t t′ : List ℕ} (f : Fills k r t t′) (good : soundRow w r ≡ true) (new : (x : LockString) → holds lockRows x r ≡ true → isHeld t x ≡ false) (g : Good n w t) where
+  clash : (x : LockString) (i j : ℕ) → i ≡ k → (j ≡ k → ⊥) → j < n → holds lockRows x (row 16 t′ i) ≡ true → holds lockRows x (row 16 t′ j) ≡ true → ⊥
   clash x i j e ne l p q =
       both (row-held t x j (omega (arith, g .sized)) (rw (f .there j ne) at q)) (new x (rw (e, f .here) at p))
 
@@ -40,11 +42,11 @@ module _ {n k : ℕ} {w : ℕ → Bool} {r t t′ : List ℕ} (f : Fills k r t t
 
 -- rows are freed
 module _ {n : ℕ} {f : ℕ → Bool} {w : ℕ → Bool} {t t′ : List ℕ} (h : Frees f t t′) (g : Good n w t) where
-  was : (x : LockString) (i : ℕ) → i < n → holds x (row 16 t′ i) ≡ true → holds x (row 16 t i) ≡ true
+  was : (x : LockString) (i : ℕ) → i < n → holds lockRows x (row 16 t′ i) ≡ true → holds lockRows x (row 16 t i) ≡ true
   was x i l p =
       let e = h .rows i (omega (arith, g .sized)) in
       by-test (f i)
-      (λ y. both (rw (e, y) at p) (free-holds x freeRow free-free))
+      (λ y. both (rw (e, y) at p) (free-holds lockRows x freeRow free-free))
       (λ m. rw (e, m) at p)
 
   frees-keep : Good n w t′
@@ -81,7 +83,7 @@ module _ (n : ℕ) (w : ℕ → Bool) (t : List ℕ) (h : soundRows n w t ≡ tr
     each = λ i l. good-beside w (row 16 t i) w′ (g .each i l) (λ u.
         let s = stringOf (row 16 t i) in
         inside (owner (row 16 t i)) s (row-has t _ s i (omega (arith, g .sized)) (record {
-          held = is-holds s _ (record { used = u; string = same-string-refl s });
+          held = is-holds lockRows s _ (record { used = u; string = same-string-refl s });
           owned = refl;
         })));
     one-row = g .one-row;
@@ -106,7 +108,7 @@ module _ (n : ℕ) where
   free-rows-good w = is-good n w _ (record {
     sized = length-copies n freeRow;
     each = λ i l. rw (free-row i l) (free-good w);
-    one-row = λ x i j l m p q. both (rw (free-row i l) at p) (free-holds x freeRow free-free);
+    one-row = λ x i j l m p q. both (rw (free-row i l) at p) (free-holds lockRows x freeRow free-free);
   })
 
 -- the fresh table is good, whoever is logged in

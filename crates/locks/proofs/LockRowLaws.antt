@@ -1,60 +1,32 @@
 -- The laws of one row of the lock table.
-use Prim.Native.Nat.{ℕ, _+_, _-_, _*_, _≤_}
+use Prim.Native.Nat.{ℕ, _+_, _-_, _≤_}
 use native.Mathlib.Omega.{arith}
 use mathlib.Core.Path.{_≡_, refl, sym, ap, _∙_}
-use mathlib.Core.Bool.{Bool, true, false, not, _&&_}
+use mathlib.Core.Bool.{Bool, true, false, _&&_}
 use mathlib.Core.List.{List, [], _∷_, _++_, append-assoc}
-use lib.Dec.{eqb, lit≤}
+use lib.Dec.{eqb}
 use lib.ListN.{length, take, drop, replicate, length-append, length-replicate}
 use lib.Seq.{take-at, take-all, drop-at, drop-drop, drop-append-le}
-use borrow.Author.Tests.{ne-eqb, not-true}
+use borrow.Author.Tests.{ne-eqb}
 use Rattle.rows.specs.Words.{all, zeros, zeroAt}
-use Rattle.rows.specs.Rows.{part, row, over}
+use Rattle.rows.specs.Rows.{part, over}
 use Rattle.rows.proofs.BoolLaws.{by-test, and-left, and-right}
 use Rattle.rows.proofs.BuildLaws.{is-zeros, drop-zeros}
 use Rattle.terms.specs.declared.LockString.{LockString}
 use Rattle.terms.specs.Strings.{stringAt, stringBytes, legal, key, sameString, normal}
-use Rattle.terms.proofs.StringLaws.{string-inside, legal-len, legal-same, normal-is-same, length-key, length-normal, same-string-normal, same-string-right}
-use Rattle.locks.specs.Row.{owner, stringOf, freeRow, isFree, rowOf, holds, freed}
+use Rattle.terms.proofs.StringLaws.{legal-len, legal-same, normal-is-same, length-key, length-normal, same-string-normal, string-normal}
+use Rattle.terms.specs.Tables
+use Rattle.terms.specs.Tables.{stringIn, holds}
+use Rattle.locks.specs.Row.{owner, lockRows, stringOf, freeRow, isFree, rowOf, freed}
 use Rattle.locks.specs.Good.{soundRow}
 
 -- a row made of its owner, its length and its string over sixteen zeros
 pub row-laid : (who : ℕ) (s : LockString) → length (s .bytes) ≡ 13 → over (who ∷ stringBytes s) (replicate 16 0) ≡ who ∷ (stringBytes s ++ (0 ∷ []))
 row-laid who s h = rw h
 
--- the string of row i
-pub row-string : (t : List ℕ) (i : ℕ) → stringAt t (16 * i + 1) ≡ stringOf (row 16 t i)
-unfolding stringOf stringAt
-row-string t i = sym (string-inside t (16 * i) 16 1 (lit≤ tt))
-
--- a row that holds a string
-pub record Holds (x : LockString) (r : List ℕ) : Type 0 where
-  pub used : isFree r ≡ false
-  pub string : sameString (stringOf r) x ≡ true
-
-pub holds-is : (x : LockString) (r : List ℕ) → holds x r ≡ true → Holds x r
-unfolding holds
-holds-is x r h = record {
-  used = not-true _ (and-left (not (isFree r)) (sameString (stringOf r) x) h);
-  string = and-right (not (isFree r)) (sameString (stringOf r) x) h;
-}
-
-pub is-holds : (x : LockString) (r : List ℕ) → Holds x r → holds x r ≡ true
-unfolding holds
-is-holds x r h = rw (h .used, h .string)
-
--- a row holds every string that is the same as one that it holds
-pub holds-same : (a b : LockString) (r : List ℕ) → sameString a b ≡ true → holds a r ≡ holds b r
-unfolding holds
-holds-same a b r h = ap (λ (c : Bool). not (isFree r) && c) (same-string-right a b (stringOf r) h)
-
--- a free row holds nothing
-pub free-holds : (x : LockString) (r : List ℕ) → isFree r ≡ true → holds x r ≡ false
-unfolding holds
-free-holds x r f = rw f
-
+-- the free row is free
 pub free-free : isFree freeRow ≡ true
-unfolding isFree owner
+unfolding Tables.isFree
 free-free = refl
 
 -- the row that a lock fills
@@ -64,7 +36,7 @@ module _ (who : ℕ) (s : LockString) where
   owner-rowOf = refl
 
   pub used-rowOf : (who ≡ 0xFF → ⊥) → isFree (rowOf who s) ≡ false
-  unfolding isFree
+  unfolding Tables.isFree owner
   used-rowOf ne = rw owner-rowOf (ne-eqb who 255 ne)
 
   module _ (full : length (s .bytes) ≡ 13) where
@@ -73,10 +45,10 @@ module _ (who : ℕ) (s : LockString) where
     length-rowOf = simp (length-append, length-normal s full)
 
     pub string-rowOf : stringOf (rowOf who s) ≡ normal s
-    unfolding stringOf stringAt rowOf part normal
+    unfolding stringIn stringAt rowOf part normal
     string-rowOf = λ i. record { len = s .len; bytes = take-at (normal s .bytes) (0 ∷ []) 13 (length-normal s full) i }
 
-    pub holds-rowOf : (who ≡ 0xFF → ⊥) → (x : LockString) → holds x (rowOf who s) ≡ sameString s x
+    pub holds-rowOf : (who ≡ 0xFF → ⊥) → (x : LockString) → holds lockRows x (rowOf who s) ≡ sameString s x
     unfolding holds
     holds-rowOf ne x = rw (used-rowOf ne, string-rowOf) (same-string-normal s full x)
 
@@ -116,8 +88,16 @@ module _ (w : ℕ → Bool) (r : List ℕ) where
 
 -- the free row is good
 pub free-good : (w : ℕ → Bool) → soundRow w freeRow ≡ true
-unfolding soundRow isFree owner zeros zeroAt all part
+unfolding soundRow Tables.isFree zeros zeroAt all part
 free-good w = refl
+
+-- in a good used row the string stands in its normal form
+pub good-normal : (w : ℕ → Bool) (r : List ℕ) → length r ≡ 16 → soundRow w r ≡ true → isFree r ≡ false → normal (stringOf r) ≡ stringOf r
+unfolding stringIn
+good-normal w r long good used =
+    let g = good-used w r good used in
+    let short = legal-len (stringOf r) (g .lawful) .1 in
+    string-normal r 1 (14 - stringOf r .len) (omega arith) short (omega arith) (omega arith) (g .rest)
 
 -- zeros follow the string of the row that a lock fills
 zeros-rowOf : (who : ℕ) (s : LockString) → length (s .bytes) ≡ 13 → s .len ≤ 13 → part (rowOf who s) (2 + s .len) (14 - s .len) ≡ replicate (14 - s .len) 0

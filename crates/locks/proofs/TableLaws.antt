@@ -14,7 +14,8 @@ use Rattle.rows.proofs.IndexLaws.{any-at, first-found}
 use Rattle.rows.proofs.RowLaws.{length-setRow, row-setRow, row-setRow-other, length-eachRow, row-eachRow}
 use Rattle.terms.specs.declared.LockString.{LockString}
 use Rattle.terms.specs.Strings.{legal}
-use Rattle.locks.specs.Row.{isFree, freeRow, rowOf, holds, freed}
+use Rattle.terms.specs.Tables.{holds, rowIn, rowFree, rowHolds}
+use Rattle.locks.specs.Row.{isFree, lockRows, freeRow, rowOf, freed}
 use Rattle.locks.specs.Table.{rowCount, holdsAt, freeAt, ownerAt, heldAt, lowestFree, isHeld, isOwn, lockTable, unlocks, unlockTable, clearedTable}
 use Rattle.locks.proofs.LockRowLaws.{length-rowOf, freed-long}
 use Rattle.locks.proofs.Cases.{lock-granted}
@@ -37,12 +38,12 @@ module _ (t : List ℕ) where
   whole = omega arith
 
   -- the row of a string that is held
-  pub held-row : (s : LockString) → isHeld t s ≡ true → (heldAt t s < rowCount t) × (holds s (row 16 t (heldAt t s)) ≡ true)
-  unfolding isHeld heldAt holdsAt
+  pub held-row : (s : LockString) → isHeld t s ≡ true → (heldAt t s < rowCount t) × (holds lockRows s (row 16 t (heldAt t s)) ≡ true)
+  unfolding isHeld heldAt rowIn rowHolds
   held-row s h = first-found (holdsAt t s) (rowCount t) h
 
-  pub row-held : (s : LockString) (i : ℕ) → i < rowCount t → holds s (row 16 t i) ≡ true → isHeld t s ≡ true
-  unfolding isHeld holdsAt
+  pub row-held : (s : LockString) (i : ℕ) → i < rowCount t → holds lockRows s (row 16 t i) ≡ true → isHeld t s ≡ true
+  unfolding isHeld rowIn rowHolds
   row-held s i l h = any-at (holdsAt t s) (rowCount t) i l h
 
   -- the owner of a string that is the sender's
@@ -54,7 +55,7 @@ module _ (t : List ℕ) where
 
   pub lock-fills : (who : ℕ) (s : LockString) → length (s .bytes) ≡ 13 → legal s ≡ true → isHeld t s ≡ false → any (freeAt t) (rowCount t) ≡ true
       → Fills (lowestFree t) (rowOf who s) t (lockTable t who s)
-  unfolding lowestFree freeAt
+  unfolding lowestFree rowIn rowFree
   lock-fills who s full l h f =
       let free = first-found (freeAt t) (rowCount t) f in
       let long = length-rowOf who s full in

@@ -1,14 +1,14 @@
 -- The rules of the lock table. `inside` says who is logged in.
 use Prim.Native.Nat.{ℕ, _+_, _-_, _*_}
-use mathlib.Core.Bool.{Bool, cond, not, _&&_, _||_}
+use mathlib.Core.Bool.{Bool, cond, _&&_}
 use mathlib.Core.List.{List}
 use lib.Dec.{eqb}
 use lib.ListN.{length}
-use Rattle.rows.specs.Words.{all, any, zeros}
+use Rattle.rows.specs.Words.{all, zeros}
 use Rattle.rows.specs.Rows.{part, row, copies}
 use Rattle.terms.specs.Strings.{legal}
-use Rattle.locks.specs.Row.{owner, stringOf, freeRow, isFree}
-use Rattle.locks.specs.Table.{holdsAt, freeAt}
+use Rattle.terms.specs.Tables.{rowAlone}
+use Rattle.locks.specs.Row.{owner, stringOf, lockRows, freeRow, isFree}
 
 -- a free row has owner FF and zeros; a used row has length 1 to 13, zeros after the string and in the spare byte, and an owner who is logged in
 unfoldable pub soundRow : (ℕ → Bool) → List ℕ → Bool
@@ -22,8 +22,8 @@ unfoldable pub soundAt : (ℕ → Bool) → List ℕ → ℕ → Bool
 soundAt inside t i = soundRow inside (row 16 t i)
 
 -- no two used rows hold the same string: no earlier one holds this one's
-unfoldable pub aloneAt : List ℕ → ℕ → Bool
-aloneAt t i = freeAt t i || not (any (holdsAt t (stringOf (row 16 t i))) i)
+abbrev pub aloneAt : List ℕ → ℕ → Bool
+aloneAt = rowAlone lockRows
 
 -- a table of n rows
 unfoldable pub soundRows : ℕ → (ℕ → Bool) → List ℕ → Bool

@@ -8,17 +8,19 @@ use Rattle.rows.specs.Words.{any, first}
 use Rattle.rows.specs.Rows.{row, setRow, eachRow}
 use Rattle.terms.specs.declared.LockString.{LockString}
 use Rattle.terms.specs.Strings.{legal}
-use Rattle.locks.specs.Row.{owner, isFree, freeRow, rowOf, holds, freed}
+use Rattle.terms.specs.Tables.{rowFree, rowHolds}
+use Rattle.locks.specs.Row.{owner, lockRows, freeRow, rowOf, freed}
 
 -- how many whole rows there are
 abbrev pub rowCount : List ℕ → ℕ
 rowCount t = length t / 16
 
-unfoldable pub holdsAt : List ℕ → LockString → ℕ → Bool
-holdsAt t s i = holds s (row 16 t i)
+-- row i is used and holds s; row i is free
+abbrev pub holdsAt : List ℕ → LockString → ℕ → Bool
+holdsAt = rowHolds lockRows
 
-unfoldable pub freeAt : List ℕ → ℕ → Bool
-freeAt t i = isFree (row 16 t i)
+abbrev pub freeAt : List ℕ → ℕ → Bool
+freeAt = rowFree lockRows
 
 unfoldable pub ownerAt : List ℕ → ℕ → ℕ
 ownerAt t i = owner (row 16 t i)

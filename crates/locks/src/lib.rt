@@ -3,6 +3,7 @@ mod row;
 mod rules;
 
 use terms::LockString;
+use terms::table;
 ghost use mathlib.Core.Path.{_≡_};
 ghost use Prim.Native.Nat.{_+_, _*_, _≤_, _<_};
 ghost use lib.ListN.{length};
@@ -110,7 +111,7 @@ pub fn is_good(table: &[u8], word: u64) -> bool
     if !rules::rows_good(table, LOCKS, word) {
         return false;
     }
-    rules::rows_alone(table, LOCKS)
+    table::rows_alone(table, row::shape(), LOCKS)
 }
 
 // Leaves 64 free rows.

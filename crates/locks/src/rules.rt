@@ -1,18 +1,11 @@
 // The rules of the lock table, row by row.
 use crate::ROW;
-use crate::row;
-use terms::table;
 ghost use mathlib.Core.Path.{_≡_};
-ghost use mathlib.Core.Bool.{false};
-ghost use Prim.Native.Nat.{ℕ, _+_, _*_, _≤_, _<_};
+ghost use Prim.Native.Nat.{_*_, _≤_};
 ghost use lib.ListN.{length};
 ghost use Rattle.rows.specs.Numbers.{bitAt};
 ghost use Rattle.rows.specs.Words.{all};
-ghost use Rattle.rows.specs.Rows.{row as rowAt};
-ghost use Rattle.terms.specs.Strings.{normal};
-ghost use Rattle.locks.specs.Row.{stringOf};
-ghost use Rattle.locks.specs.Table.{freeAt};
-ghost use Rattle.locks.specs.Good.{soundRow, soundAt, aloneAt};
+ghost use Rattle.locks.specs.Good.{soundRow, soundAt};
 
 // A row by itself: free with zeros, or used by somebody who is logged in, with a legal length and zeros after the string. The
 // word says who is logged in, by bit n for number n.
@@ -49,13 +42,4 @@ pub fn rows_good(table: &[u8], n: usize, word: u64) -> bool
         i += 1;
     }
     true
-}
-
-// No two of the first n rows hold the same string, where zeros stand after each.
-pub fn rows_alone(table: &[u8], n: usize) -> bool
-    requires { ⌜ 16 * n ≤ length (now table) ⌝ }
-    requires { ⌜ ((i : ℕ) → i < n → freeAt (now table) i ≡ false → normal (stringOf (rowAt 16 (now table) i)) ≡ stringOf (rowAt 16 (now table) i)) ⌝ }
-    ensures { λ b. ⌜ b ≡ all (aloneAt (now (table .entry))) n ⌝ }
-{
-    table::rows_alone(table, row::shape(), n)
 }

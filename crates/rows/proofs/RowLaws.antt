@@ -1,6 +1,6 @@
 -- The laws of specs/Rows.antt: a part of lent bytes after a part was put down. Over the place, the width w and the number of rows n.
 use Prim.Native.Nat.{ℕ, zero, suc, _+_, _-_, _*_, _≤_, _<_}
-use native.Mathlib.Nat.{not-suc-le-zero, add-assoc, mul-suc, mul-le-mul-left, le-of-suc-le-suc, eq-or-lt-of-le}
+use native.Mathlib.Nat.{not-suc-le-zero, add-zero, add-assoc, mul-suc, mul-le-mul-left, le-of-suc-le-suc, eq-or-lt-of-le}
 use native.Mathlib.Numerals.{add-one}
 use native.Mathlib.Omega.{arith}
 use mathlib.Core.Path.{_≡_, refl, sym, ap, _∙_, subst}
@@ -27,6 +27,9 @@ module _ (l : List ℕ) (at n : ℕ) where
   pub getD-part : (k : ℕ) → k < n → getD (part l at n) k 0 ≡ getD l (at + k) 0
   unfolding part
   getD-part k h = rw (getD-take, getD-drop)
+
+  pub head-part : 0 < n → getD (part l at n) 0 0 ≡ getD l at 0
+  head-part h = getD-part 0 h ∙ ap (λ (k : ℕ). getD l k 0) (add-zero at)
 
   pub part-rest : part l at n ++ drop (at + n) l ≡ drop at l
   unfolding part

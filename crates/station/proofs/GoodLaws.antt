@@ -4,41 +4,24 @@ use native.Mathlib.Omega.{arith}
 use mathlib.Core.Path.{_≡_, sym}
 use mathlib.Core.Bool.{true, false, _&&_}
 use mathlib.Core.List.{List}
-use lib.Dec.{ltb}
 use lib.ListN.{length}
-use borrow.Author.Tests.{ltb-true, ltb-false, not-true}
+use borrow.Author.Tests.{not-true}
 use Rattle.rows.specs.Words.{all, first}
 use Rattle.rows.specs.Rows.{row}
 use Rattle.rows.proofs.BoolLaws.{by-test, by-eq, both, refuted, and-left, and-right}
 use Rattle.rows.proofs.IndexLaws.{Passing, all-at, all-from, any-at, none-at, none-from, first-found, first-most, found-if, first-least}
-use Rattle.terms.specs.declared.LockString.{LockString}
-use Rattle.terms.proofs.StringLaws.{same-string-refl, same-string-sym, same-string-trans}
-use Rattle.station.specs.State.{placeString, unused, listedAt}
+use Rattle.terms.proofs.TableLaws.{OneRow, alone-one, one-alone}
+use Rattle.station.specs.State.{places, unused}
 use Rattle.station.specs.Good.{goodPlace, goodAt, inFront, aloneAt, goodList}
-use Rattle.station.proofs.PlaceLaws.{holds-is, is-holds}
 
 -- each place keeps the rules by itself, of the places that hold a string there is one at most, and the used places come first
 pub record Good (n : ℕ) (l : List ℕ) : Type 0 where
   pub sized : length l ≡ 14 * n
   pub each : (i : ℕ) → i < n → goodPlace (row 14 l i) ≡ true
-  pub one-place : (x : LockString) (i j : ℕ) → i < n → j < n → listedAt l x i ≡ true → listedAt l x j ≡ true → i ≡ j
+  pub one-place : OneRow places l n
   pub used-first : (i j : ℕ) → unused l i ≡ true → i ≤ j → j < n → unused l j ≡ true
 
 module _ (n : ℕ) (l : List ℕ) where
-  not-before : all (aloneAt l) n ≡ true → (x : LockString) (i j : ℕ) → i < n → j < i → listedAt l x i ≡ true → listedAt l x j ≡ true → ⊥
-  unfolding aloneAt
-  not-before a x i j m b p q =
-      let here = holds-is l x i p in
-      let there = holds-is l x j q in
-      let s = placeString (row 14 l i) in
-      both (is-holds l s j (record { used = there .used; string = same-string-trans _ _ _ (there .string) (same-string-sym _ _ (here .string)) }))
-      (none-at (listedAt l s) i j (not-true _ (rw (here .used) at (all-at (aloneAt l) n i a m))) b)
-
-  alone-one : all (aloneAt l) n ≡ true → (x : LockString) (i j : ℕ) → i < n → j < n → listedAt l x i ≡ true → listedAt l x j ≡ true → i ≡ j
-  alone-one a x i j b m p q = by-eq i j (λ e. e) (λ ne. by-test (ltb j i)
-      (λ y. absurd (not-before a x i j b (ltb-true j i y) p q))
-      (λ z. absurd (not-before a x j i m (omega (arith, ltb-false j i z)) q p)))
-
   front-first : all (inFront l) n ≡ true → (i j : ℕ) → unused l i ≡ true → i ≤ j → j < n → unused l j ≡ true
   unfolding inFront
   front-first a i j u h m = by-test (unused l j) (λ y. y) (λ used. by-eq i j
@@ -54,7 +37,7 @@ module _ (n : ℕ) (l : List ℕ) where
       let rest = and-right e (f && a) h in record {
         sized = sized;
         each = λ i b. all-at (goodAt l) n i (and-left e (f && a) h) b;
-        one-place = alone-one (and-right f a rest);
+        one-place = alone-one places l n (and-right f a rest);
         used-first = front-first (and-left f a rest);
       }
 
@@ -64,18 +47,9 @@ module _ (n : ℕ) (l : List ℕ) where
       (λ f. rw f)
       (λ u. rw (u, none-from (unused l) i (λ j m. sym (refuted _ (λ f. both (g .used-first j i f (omega arith) b) u)))))
 
-  facts-alone : Good n l → (i : ℕ) → i < n → aloneAt l i ≡ true
-  unfolding aloneAt
-  facts-alone g i b = by-test (unused l i)
-      (λ f. rw f)
-      (λ u.
-      let x = placeString (row 14 l i) in
-      let own : listedAt l x i ≡ true = is-holds l x i (record { used = u; string = same-string-refl x }) in
-      rw (u, none-from (listedAt l x) i (λ j m. sym (refuted _ (λ h. let e = g .one-place x i j b (omega arith) own h in omega arith)))))
-
   pub is-good : Good n l → goodList n l ≡ true
   unfolding goodList goodAt
-  is-good g = rw (all-from (goodAt l) n (g .each), all-from (inFront l) n (facts-front g), all-from (aloneAt l) n (facts-alone g))
+  is-good g = rw (all-from (goodAt l) n (g .each), all-from (inFront l) n (facts-front g), one-alone places l n (g .one-place))
 
 -- the used places of a list: those before the first unused one keep the rule, and a used one behind it breaks it
 module _ (l : List ℕ) (n : ℕ) where

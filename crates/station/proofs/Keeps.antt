@@ -5,16 +5,17 @@ use mathlib.Core.Path.{_≡_, refl, sym, _∙_}
 use mathlib.Core.Bool.{true, false, cond, not, _&&_, _||_, or-false}
 use mathlib.Core.List.{List, _++_}
 use lib.Dec.{eqb}
-use lib.ListN.{length, getD, replicate, length-append}
+use lib.ListN.{length, replicate, length-append}
 use borrow.Author.Tests.{not-true, not-false}
 use Rattle.rows.specs.Rows.{row}
 use Rattle.rows.specs.Words.{all, zeros, zeroAt}
 use Rattle.rows.proofs.BoolLaws.{by-test, by-eq, both, and-left, and-right}
 use Rattle.terms.specs.declared.LockString.{LockString}
 use Rattle.terms.specs.Strings.{legal, sameString}
+use Rattle.terms.specs.Tables.{isFree, holds, rowIn, rowFree, rowHolds}
 use Rattle.terms.proofs.StringLaws.{same-string-normal}
 use Rattle.frames.specs.Table.{LOCK, UNLOCK}
-use Rattle.station.specs.State.{limit, listLength, listOf, waitOf, unused, listedAt, isListed, placeOf, listed, added, codeIn, askedIn, nothing}
+use Rattle.station.specs.State.{limit, listLength, listOf, waitOf, places, unused, listedAt, isListed, placeOf, listed, added, codeIn, askedIn, nothing}
 use Rattle.station.specs.Good.{goodPlace, goodState}
 use Rattle.station.specs.Asks.{struck, awaited, awaitedClear, afterLock, afterUnlock, afterClear, freshState}
 use Rattle.station.specs.Replies.{grants, carriesLength, adds, replyRefusal, afterReply}
@@ -29,21 +30,21 @@ use Rattle.station.proofs.ListedLaws.{listed-added, listed-place, place
 -- a new legal string in the first unused place
 module _ {n : ℕ} {l l′ : List ℕ} (x : LockString) (full : length (x .bytes) ≡ 13) (lawful : legal x ≡ true) (new : isListed l x ≡ false) (a : Adds n (listed l) (placed x) l l′) (g : Good n l) where
   here-used : unused l′ (listed l) ≡ false
-  unfolding unused
+  unfolding rowIn rowFree isFree
   here-used = rw (a .here) (placed-used x full lawful)
 
   there-unused : (i : ℕ) → (i ≡ listed l → ⊥) → unused l′ i ≡ unused l i
-  unfolding unused
+  unfolding rowIn rowFree
   there-unused i ne = rw (a .there i ne)
 
   clash : (y : LockString) (i j : ℕ) → i ≡ listed l → (j ≡ listed l → ⊥) → j < n → listedAt l′ y i ≡ true → listedAt l′ y j ≡ true → ⊥
-  unfolding listedAt unused
+  unfolding rowIn rowHolds holds isFree
   clash y i j e ne b p q =
       let same : sameString x y ≡ true = sym (same-string-normal x full y) ∙ (rw (e, a .here, placed-used x full lawful, placed-string x full) at p) in
       both (listed-same l x y same ∙ place-listed l y j (counted g b) (rw (a .there j ne) at q)) new
 
   adds-keep : Good n l′
-  unfolding listedAt unused
+  unfolding rowIn rowHolds
   adds-keep = record {
     sized = a .long ∙ g .sized;
     each = λ i b. by-eq i (listed l) (λ (e : i ≡ listed l). rw (e, a .here) (placed-good x full lawful)) (λ ne. rw (a .there i ne) (g .each i b));
@@ -62,22 +63,23 @@ module _ {n : ℕ} {l l′ : List ℕ} (x : LockString) (full : length (x .bytes
 -- a place struck
 module _ {n k : ℕ} {l l′ : List ℕ} (g : Good n l) (s : Strikes n k l l′) where
   unused-stood : (j : ℕ) → j < n → unused l′ j ≡ unused l (stood k j)
-  unfolding unused
-  unused-stood j b = s .rows (λ r. eqb (getD r 0 0) 0) refl j b
+  unfolding rowIn rowFree isFree
+  unused-stood j b = s .rows (isFree places) refl j b
 
   past-unused : unused l n ≡ true
-  unfolding unused
+  unfolding rowIn rowFree isFree
   past-unused = rw (row-past n l (g .sized))
 
   past-good : goodPlace (row 14 l n) ≡ true
-  unfolding goodPlace zeros all
+  unfolding goodPlace isFree zeros all
   past-good = rw (row-past n l (g .sized))
 
   good-stood : (j : ℕ) → j < n → goodPlace (row 14 l′ j) ≡ goodPlace (row 14 l (stood k j))
-  unfolding goodPlace zeros zeroAt all
+  unfolding goodPlace isFree zeros zeroAt all
   good-stood j b = s .rows goodPlace refl j b
 
   strikes-keep : Good n l′
+  unfolding rowIn rowHolds
   strikes-keep = record {
     sized = s .long ∙ g .sized;
     each = λ j b. good-stood j b ∙ by-eq (stood k j) n (λ (e : stood k j ≡ n). rw e past-good) (λ ne. g .each (stood k j) (omega (arith, stood-inside k n j b)));

@@ -4,8 +4,8 @@ use native.Mathlib.Omega.{arith}
 use mathlib.Core.Path.{_≡_, refl, sym, ap, _∙_}
 use mathlib.Core.Bool.{true, false, not, _&&_, _||_}
 use mathlib.Core.List.{List}
-use lib.Dec.{eqb, ltb}
-use lib.ListN.{length, getD, replicate, length-replicate}
+use lib.Dec.{ltb}
+use lib.ListN.{length, replicate, length-replicate}
 use borrow.Author.Tests.{ltb-true, ltb-false, not-true}
 use Rattle.rows.specs.Words.{any}
 use Rattle.rows.specs.Rows.{part, row}
@@ -14,10 +14,12 @@ use Rattle.rows.proofs.BuildLaws.{take-zeros, drop-zeros}
 use Rattle.rows.proofs.IndexLaws.{any-at, none-from, first-found, first-none, found-if, first-least, any-same, any-set}
 use Rattle.terms.specs.declared.LockString.{LockString}
 use Rattle.terms.specs.Strings.{legal, sameString}
+use Rattle.terms.specs.Tables.{isFree, holds, rowIn, rowFree, rowHolds}
+use Rattle.terms.proofs.TableLaws.{holds-is, is-holds, holds-same, free-holds}
 use Rattle.terms.proofs.StringLaws.{legal-same, same-string-refl, same-string-sym, same-string-trans, same-string-normal}
-use Rattle.station.specs.State.{listLength, limit, placeCount, placeString, unused, listedAt, isListed, placeOf, listed, added}
+use Rattle.station.specs.State.{listLength, limit, placeCount, places, placeString, unused, listedAt, isListed, placeOf, listed, added}
 use Rattle.station.specs.Asks.{struck}
-use Rattle.station.proofs.PlaceLaws.{holds-is, is-holds, unused-holds, holds-same, zeros-good, used-legal, placed, placed-string, placed-used}
+use Rattle.station.proofs.PlaceLaws.{zeros-good, used-legal, placed, placed-string, placed-used}
 use Rattle.station.proofs.GoodLaws.{Good}
 use Rattle.station.proofs.ListLaws.{count-is, row-past, Adds, added-adds, stood, stood-apart, stood-inside, by-place-now, Strikes, struck-strikes}
 
@@ -33,8 +35,8 @@ module _ (l : List ℕ) (x : LockString) where
 
 -- a string is listed where one that is the same is
 pub listed-same : (l : List ℕ) (a b : LockString) → sameString a b ≡ true → isListed l a ≡ isListed l b
-unfolding isListed
-listed-same l a b h = any-same (listedAt l b) (listedAt l a) (placeCount l) (λ i _. holds-same l a b i h)
+unfolding isListed rowIn rowHolds
+listed-same l a b h = any-same (listedAt l b) (listedAt l a) (placeCount l) (λ i _. holds-same places a b (row 14 l i) h)
 
 -- the places below the number of strings are used
 pub below-used : (l : List ℕ) (i : ℕ) → i < listed l → unused l i ≡ false
@@ -50,9 +52,10 @@ module _ {n : ℕ} {l : List ℕ} (g : Good n l) where
 
   -- a string that is listed is legal
   pub listed-legal : (x : LockString) → isListed l x ≡ true → legal x ≡ true
+  unfolding rowIn rowFree rowHolds
   listed-legal x h =
       let p = listed-place l x h in
-      let held = holds-is l x (placeOf l x) (p .1) in
+      let held = holds-is places x (row 14 l (placeOf l x)) (p .1) in
       sym (legal-same _ x (held .string)) ∙ used-legal l (placeOf l x) (g .each _ (within (p .0))) (held .used)
 
   -- the used places are those below the number of strings
@@ -72,33 +75,35 @@ module _ {n : ℕ} {l : List ℕ} (g : Good n l) where
 
   -- each of them holds a string that is listed, and no two the same
   own : (i : ℕ) → i < listed l → listedAt l (placeString (row 14 l i)) i ≡ true
-  own i b = is-holds l _ i (record { used = below-used l i b; string = same-string-refl _ })
+  unfolding rowIn rowFree rowHolds
+  own i b = is-holds places _ (row 14 l i) (record { used = below-used l i b; string = same-string-refl _ })
 
   pub below-listed : (i : ℕ) → i < listed l → isListed l (placeString (row 14 l i)) ≡ true
   below-listed i b = place-listed l _ i (counted (omega (arith, listed-inside))) (own i b)
 
   pub below-one : (i j : ℕ) → i < listed l → j < listed l → sameString (placeString (row 14 l i)) (placeString (row 14 l j)) ≡ true → i ≡ j
+  unfolding rowIn rowFree rowHolds
   below-one i j b c s = g .one-place (placeString (row 14 l j)) i j (omega (arith, listed-inside)) (omega (arith, listed-inside))
-      (is-holds l _ i (record { used = below-used l i b; string = s }))
+      (is-holds places _ (row 14 l i) (record { used = below-used l i b; string = s }))
       (own j c)
 
 -- after a string was put in an unused place, it is listed too
 pub adds-listed : {n k : ℕ} {l l′ : List ℕ} (x : LockString) → length (x .bytes) ≡ 13 → legal x ≡ true → Adds n k (placed x) l l′ → length l ≡ 14 * n → (y : LockString) → isListed l′ y ≡ (isListed l y || sameString x y)
-unfolding isListed listedAt unused
+unfolding isListed rowIn rowFree rowHolds holds isFree
 adds-listed {n} {k} {l} {l′} x full lawful a sized y =
     rw (a .long)
-    (any-set (listedAt l y) (listedAt l′ y) (placeCount l) k (omega (arith, a .inside)) (unused-holds l y k (a .was)) (λ i b ne. rw (a .there i ne))
+    (any-set (listedAt l y) (listedAt l′ y) (placeCount l) k (omega (arith, a .inside)) (free-holds places y (row 14 l k) (a .was)) (λ i b ne. rw (a .there i ne))
     ∙ rw (a .here, placed-used x full lawful, placed-string x full, same-string-normal x full y))
 
 -- after place k was struck, what it held is listed no more, and all else is
 module _ {n k : ℕ} {l l′ : List ℕ} (g : Good n l) (s : Strikes n k l l′) where
   pub struck-holds : (y : LockString) (j : ℕ) → j < n → listedAt l′ y j ≡ listedAt l y (stood k j)
-  unfolding listedAt unused
-  struck-holds y j b = s .rows (λ r. not (eqb (getD r 0 0) 0) && sameString (placeString r) y) refl j b
+  unfolding rowIn rowHolds holds isFree
+  struck-holds y j b = s .rows (holds places y) refl j b
 
   -- what is found in place j stood in a place of the list
   pub struck-stood : (y : LockString) (j : ℕ) → j < n → listedAt l′ y j ≡ true → (stood k j < n) × (listedAt l y (stood k j) ≡ true)
-  unfolding listedAt unused
+  unfolding rowIn rowHolds holds isFree
   struck-stood y j b h =
       let there : listedAt l y (stood k j) ≡ true = sym (struck-holds y j b) ∙ h in
       by-eq (stood k j) n
@@ -106,6 +111,7 @@ module _ {n k : ℕ} {l l′ : List ℕ} (g : Good n l) (s : Strikes n k l l′)
       (λ ne. (omega (arith, stood-inside k n j b), there))
 
   pub strikes-listed : (x : LockString) → listedAt l x k ≡ true → (y : LockString) → isListed l′ y ≡ (isListed l y && not (sameString x y))
+  unfolding rowIn rowHolds
   strikes-listed x held y = iff (isListed l′ y) (isListed l y && not (sameString x y)) gone kept
     where
       gone : isListed l′ y ≡ true → (isListed l y && not (sameString x y)) ≡ true
@@ -114,7 +120,7 @@ module _ {n k : ℕ} {l l′ : List ℕ} (g : Good n l) (s : Strikes n k l l′)
           let j = placeOf l′ y in
           let q = struck-stood y j (omega (arith, p .0, s .long, g .sized)) (p .1) in
           and-both (place-listed l y (stood k j) (counted g (q .0)) (q .1))
-          (ap not (sym (refuted (sameString x y) (λ same. stood-apart k j (g .one-place x (stood k j) k (q .0) (s .inside) (holds-same l x y (stood k j) same ∙ q .1) held)))))
+          (ap not (sym (refuted (sameString x y) (λ same. stood-apart k j (g .one-place x (stood k j) k (q .0) (s .inside) (holds-same places x y (row 14 l (stood k j)) same ∙ q .1) held)))))
 
       kept : (isListed l y && not (sameString x y)) ≡ true → isListed l′ y ≡ true
       kept h =
@@ -122,7 +128,7 @@ module _ {n k : ℕ} {l l′ : List ℕ} (g : Good n l) (s : Strikes n k l l′)
           let apart : sameString x y ≡ false = not-true _ (and-right (isListed l y) (not (sameString x y)) h) in
           let i = placeOf l y in
           by-place-now k n i
-          (λ e. both (same-string-trans x (placeString (row 14 l k)) y (same-string-sym _ x (holds-is l x k held .string)) (rw e at (holds-is l y i (p .1) .string))) apart)
+          (λ e. both (same-string-trans x (placeString (row 14 l k)) y (same-string-sym _ x (holds-is places x (row 14 l k) held .string)) (rw e at (holds-is places y (row 14 l i) (p .1) .string))) apart)
           (within g (p .0))
           (λ j b e. place-listed l′ y j (omega (arith, s .long, g .sized)) (struck-holds y j b ∙ rw e (p .1)))
 
@@ -154,20 +160,21 @@ module _ (n : ℕ) where
   zeros-row i b = rw (drop-zeros (14 * n) (14 * i) (omega arith)) (take-zeros (14 * n - 14 * i) 14 (omega arith))
 
   zeros-unused : (i : ℕ) → i < n → unused (replicate (14 * n) 0) i ≡ true
-  unfolding unused
+  unfolding rowIn rowFree isFree
   zeros-unused i b = rw (zeros-row i b)
 
   pub zeros-list : Good n (replicate (14 * n) 0)
+  unfolding rowIn rowFree
   zeros-list = record {
     sized = zeros-long;
     each = λ i b. rw (zeros-row i b) zeros-good;
-    one-place = λ x i j b m p q. both p (unused-holds _ x i (zeros-unused i b));
+    one-place = λ x i j b m p q. both p (free-holds places x (row 14 (replicate (14 * n) 0) i) (zeros-unused i b));
     used-first = λ i j u h b. zeros-unused j b;
   }
 
   pub zeros-listed : (y : LockString) → isListed (replicate (14 * n) 0) y ≡ false
-  unfolding isListed
-  zeros-listed y = rw (count-is n (replicate (14 * n) 0) zeros-long) (none-from _ n (λ i b. unused-holds _ y i (zeros-unused i b)))
+  unfolding isListed rowIn rowFree rowHolds
+  zeros-listed y = rw (count-is n (replicate (14 * n) 0) zeros-long) (none-from _ n (λ i b. free-holds places y (row 14 (replicate (14 * n) 0) i) (zeros-unused i b)))
 
 pub listed-none : (y : LockString) → isListed (replicate listLength 0) y ≡ false
 listed-none y = zeros-listed limit y

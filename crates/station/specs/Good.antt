@@ -3,18 +3,19 @@ use Prim.Native.Nat.{ℕ, _+_, _-_}
 use mathlib.Core.Bool.{Bool, cond, not, _&&_, _||_}
 use mathlib.Core.List.{List}
 use lib.Dec.{eqb}
-use lib.ListN.{length, getD}
+use lib.ListN.{length}
 use Rattle.rows.specs.Words.{all, any, zeros}
 use Rattle.rows.specs.Rows.{part, row}
 use Rattle.terms.specs.Strings.{legal}
+use Rattle.terms.specs.Tables.{isFree, rowAlone}
 use Rattle.frames.specs.Table.{LOCK, UNLOCK, CLEAR}
-use Rattle.station.specs.State.{limit, stateLength, listOf, waitOf, placeString, unused, listedAt, codeIn}
+use Rattle.station.specs.State.{limit, stateLength, listOf, waitOf, places, placeString, unused, codeIn}
 
 -- zeros in unused places; in used ones lengths 1 to 13 and zeros after the string
 unfoldable pub goodPlace : List ℕ → Bool
 goodPlace r =
-    cond (eqb (getD r 0 0) 0) (zeros r)
-    (legal (placeString r) && zeros (part r (1 + getD r 0 0) (13 - getD r 0 0)))
+    cond (isFree places r) (zeros r)
+    (legal (placeString r) && zeros (part r (1 + placeString r .len) (13 - placeString r .len)))
 
 unfoldable pub goodAt : List ℕ → ℕ → Bool
 goodAt l i = goodPlace (row 14 l i)
@@ -24,8 +25,8 @@ unfoldable pub inFront : List ℕ → ℕ → Bool
 inFront l i = unused l i || not (any (unused l) i)
 
 -- no string twice: no earlier place holds this one's
-unfoldable pub aloneAt : List ℕ → ℕ → Bool
-aloneAt l i = unused l i || not (any (listedAt l (placeString (row 14 l i))) i)
+abbrev pub aloneAt : List ℕ → ℕ → Bool
+aloneAt = rowAlone places
 
 unfoldable pub goodList : ℕ → List ℕ → Bool
 goodList n l = all (goodAt l) n && (all (inFront l) n && all (aloneAt l) n)

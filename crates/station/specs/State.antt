@@ -1,14 +1,14 @@
 -- A station's state: the places of its list, 14 bytes each (length, 13 bytes; length 0 is unused), then the 15 bytes of the frame awaited.
 use Prim.Native.Nat.{ℕ, _+_, _*_, _/_}
-use mathlib.Core.Bool.{Bool, not, _&&_}
+use mathlib.Core.Bool.{Bool}
 use mathlib.Core.List.{List, _++_}
-use lib.Dec.{eqb}
 use lib.ListN.{length, getD, take, drop, replicate}
 use Rattle.rows.specs.Words.{any, first}
-use Rattle.rows.specs.Rows.{put, row}
+use Rattle.rows.specs.Rows.{put}
 use Rattle.terms.specs.declared.table.Shape.{Shape}
 use Rattle.terms.specs.declared.LockString.{LockString}
-use Rattle.terms.specs.Strings.{stringAt, stringBytes, sameString, normal}
+use Rattle.terms.specs.Strings.{stringAt, stringBytes, normal}
+use Rattle.terms.specs.Tables.{stringIn, rowFree, rowHolds}
 
 -- at most 64 locks
 abbrev pub limit : ℕ
@@ -26,23 +26,22 @@ listOf st = take listLength st
 unfoldable pub waitOf : List ℕ → List ℕ
 waitOf st = drop listLength st
 
--- the list: how many places it has, the string in a place, and whether a place is used
+-- the list: how many places it has, and how they hold their strings
 abbrev pub placeCount : List ℕ → ℕ
 placeCount l = length l / 14
 
-unfoldable pub placeString : List ℕ → LockString
-placeString r = stringAt r 0
-
--- how the places hold their strings
 abbrev pub places : Shape
 places = record { width = 14; string = 0; free = 0 }
 
-unfoldable pub unused : List ℕ → ℕ → Bool
-unused l i = eqb (getD (row 14 l i) 0 0) 0
+abbrev pub placeString : List ℕ → LockString
+placeString = stringIn places
 
--- place i holds x
-unfoldable pub listedAt : List ℕ → LockString → ℕ → Bool
-listedAt l x i = not (unused l i) && sameString (placeString (row 14 l i)) x
+-- place i is unused; place i is used and holds x
+abbrev pub unused : List ℕ → ℕ → Bool
+unused = rowFree places
+
+abbrev pub listedAt : List ℕ → LockString → ℕ → Bool
+listedAt = rowHolds places
 
 unfoldable pub isListed : List ℕ → LockString → Bool
 isListed l x = any (listedAt l x) (placeCount l)

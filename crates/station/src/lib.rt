@@ -7,6 +7,7 @@ use frames::Command;
 use frames::Request;
 use frames::code;
 use terms::LockString;
+use terms::table;
 ghost use mathlib.Core.Path.{_≡_};
 ghost use mathlib.Core.Bool.{cond, not, _&&_};
 ghost use mathlib.Core.List.{_++_};
@@ -43,7 +44,7 @@ pub fn is_good(state: &[u8]) -> bool
     if !rules::used_first(list, LIMIT) {
         return false;
     }
-    if !rules::places_alone(list, LIMIT) {
+    if !table::rows_alone(list, list::shape(), LIMIT) {
         return false;
     }
     rules::wait_good(&state[LIST..])

@@ -1,16 +1,11 @@
 // The rules of a station's state, place by place, and of the frame awaited.
 use crate::list;
 use frames::code;
-use terms::table;
 ghost use mathlib.Core.Path.{_≡_};
-ghost use Prim.Native.Nat.{ℕ, _+_, _*_, _≤_, _<_};
+ghost use Prim.Native.Nat.{_*_, _≤_};
 ghost use lib.ListN.{length};
-ghost use mathlib.Core.Bool.{false};
 ghost use Rattle.rows.specs.Words.{all};
-ghost use Rattle.rows.specs.Rows.{row};
-ghost use Rattle.terms.specs.Strings.{normal};
-ghost use Rattle.station.specs.State.{placeString, unused};
-ghost use Rattle.station.specs.Good.{goodPlace, goodAt, inFront, aloneAt, goodWait};
+ghost use Rattle.station.specs.Good.{goodPlace, goodAt, inFront, goodWait};
 
 // A place by itself: unused and zero, or a legal string with zeros after it.
 fn place_good(r: &[u8]) -> bool
@@ -55,15 +50,6 @@ pub fn used_first(list: &[u8], n: usize) -> bool
         i += 1;
     }
     true
-}
-
-// No string twice in the first n places, where zeros stand after each.
-pub fn places_alone(list: &[u8], n: usize) -> bool
-    requires { ⌜ 14 * n ≤ length (now list) ⌝ }
-    requires { ⌜ ((i : ℕ) → i < n → unused (now list) i ≡ false → normal (placeString (row 14 (now list) i)) ≡ placeString (row 14 (now list) i)) ⌝ }
-    ensures { λ b. ⌜ b ≡ all (aloneAt (now (list .entry))) n ⌝ }
-{
-    table::rows_alone(list, list::shape(), n)
 }
 
 // The 15 bytes awaited are a lock, an unlock, a clear with zeros after it, or zeros.

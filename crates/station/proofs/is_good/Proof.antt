@@ -2,10 +2,14 @@ use Rattle.station.proofs.PlaceLaws.{place-normal}
 use Rattle.station.proofs.StateLaws.{list-long}
 use Rattle.station.specs.Good.{goodAt, goodList, goodWait, goodState}
 use Rattle.station.specs.State.{listOf, waitOf}
+use Rattle.terms.specs.declared.table.Shape.{Shape}
+use Rattle.terms.specs.Tables.{rowIn, rowFree, rowString, rowAlone}
 use Rattle.rows.proofs.IndexLaws.{all-at}
 use Rattle.rows.proofs.RowLaws.{length-row}
+use Rattle.rows.specs.Words.{all}
 use borrow.Author.Tests.{eq-eqb, ne-eqb, not-true, not-false}
 use denote.Ref.{now}
+use lib.Dec.{lit≤}
 use lib.ListN.{length, take, drop, length-drop}
 use lib.Seq.{take-all}
 use mathlib.Core.Path.{ap, sym, _∙_}
@@ -43,33 +47,35 @@ returns-3 c =
     let places = c .before .before in
     record { answer = rw (eq-eqb _ _ (places .before .before .before .if1 .left), sym (places .before .places-good .ensures) ∙ not-false _ (places .if2 .left), sym (c .before .used-first .ensures) ∙ not-true _ (c .if3 .taken)) }
 
-places-alone-requires : tie.Need-places-alone-requires
-unfolding listOf goodAt
-places-alone-requires c κs =
-    let places = c .before .before in
+rows-alone-requires : tie.Need-rows-alone-requires
+unfolding listOf goodAt rowIn rowFree rowString
+rows-alone-requires c κs =
+    let places = c .before .before .before in
     let size = places .before .before .before in
-    let st = now (size .before .before .args .state) in
-    let long = list-long st (size .if1 .left) in
-    let l = take 896 st in
-    let sized : 14 * 64 ≤ length l = omega (arith, long) in
-    (sized, λ i b used. place-normal l i (length-row 14 64 l sized i b) (all-at (goodAt l) 64 i (sym (places .before .places-good .ensures) ∙ not-false _ (places .if2 .left)) b) used)
+    let l = take 896 (now (size .before .before .args .state)) in
+    let sized : 14 * 64 ≤ length l = omega (arith, list-long (now (size .before .before .args .state)) (size .if1 .left)) in
+    rw (c .shape .ensures)
+    (sized, (lit≤ tt, λ i b used. place-normal l i (length-row 14 64 l sized i b) (all-at (goodAt l) 64 i (sym (places .before .places-good .ensures) ∙ not-false _ (places .if2 .left)) b) used))
 
 returns-4 : tie.Need-returns-4
 unfolding goodState goodList listOf
 returns-4 c =
-    let front = c .before .before in
+    let front = c .before .before .before in
     let places = front .before .before in
-    record { answer = rw (eq-eqb _ _ (places .before .before .before .if1 .left), sym (places .before .places-good .ensures) ∙ not-false _ (places .if2 .left), sym (front .before .used-first .ensures) ∙ not-false _ (front .if3 .left), sym (c .before .places-alone .ensures) ∙ not-true _ (c .if4 .taken)) }
+    let size = places .before .before .before in
+    let alone = c .before .rows-alone .ensures ∙ ap (λ (shape : Shape). all (rowAlone shape (take 896 (now (size .before .before .args .state)))) 64) (c .before .before .shape .ensures) in
+    record { answer = rw (eq-eqb _ _ (size .if1 .left), sym (places .before .places-good .ensures) ∙ not-false _ (places .if2 .left), sym (front .before .used-first .ensures) ∙ not-false _ (front .if3 .left), sym alone ∙ not-true _ (c .if4 .taken)) }
 
 returns-5 : tie.Need-returns-5
 unfolding goodState goodList listOf waitOf
 returns-5 c =
-    let alone = c .before .before in
-    let front = alone .before .before in
+    let last = c .before .before in
+    let front = last .before .before .before in
     let places = front .before .before in
     let size = places .before .before .before in
     let st = now (size .before .before .args .state) in
-    record { answer = rw (eq-eqb _ _ (size .if1 .left), sym (places .before .places-good .ensures) ∙ not-false _ (places .if2 .left), sym (front .before .used-first .ensures) ∙ not-false _ (front .if3 .left), sym (alone .before .places-alone .ensures) ∙ not-false _ (alone .if4 .left)) (c .wait-good .ensures ∙ ap goodWait (take-all (length st - 896) (drop 896 st) (omega (arith, length-drop 896 st)))) }
+    let alone = last .before .rows-alone .ensures ∙ ap (λ (shape : Shape). all (rowAlone shape (take 896 st)) 64) (last .before .before .shape .ensures) in
+    record { answer = rw (eq-eqb _ _ (size .if1 .left), sym (places .before .places-good .ensures) ∙ not-false _ (places .if2 .left), sym (front .before .used-first .ensures) ∙ not-false _ (front .if3 .left), sym alone ∙ not-false _ (last .if4 .left)) (c .wait-good .ensures ∙ ap goodWait (take-all (length st - 896) (drop 896 st) (omega (arith, length-drop 896 st)))) }
 
 pub is-good-spec : {M : Type 1} → statement M
 is-good-spec =
@@ -81,7 +87,8 @@ is-good-spec =
     returns-2
     used-first-requires
     returns-3
-    places-alone-requires
+    (λ c κs. search needs)
+    rows-alone-requires
     returns-4
     (λ c. search needs)
     (λ c. search needs)

@@ -1,6 +1,7 @@
 use Rattle.locks.specs.Good.{soundRow}
-use Rattle.locks.specs.Row.{owner, stringOf, isFree}
+use Rattle.locks.specs.Row.{owner}
 use Rattle.terms.specs.Strings.{stringAt, legal}
+use Rattle.terms.specs.Tables.{isFree, stringIn}
 use Rattle.rows.specs.Numbers.{bitAt}
 use Rattle.rows.specs.Rows.{part}
 use Rattle.rows.specs.Words.{zeros}
@@ -25,7 +26,7 @@ returns-2 c =
     rw (ne-eqb _ _ (used .if1 .left), sym (ap (bitAt word) (first .index-of .ensures .0)) ∙ sym (c .before .is-bit .ensures .answer) ∙ not-true _ (c .if2 .taken))
 
 returns-3 : tie.Need-returns-3
-unfolding soundRow isFree owner legal stringOf stringAt
+unfolding soundRow isFree owner legal stringIn stringAt
 returns-3 c =
     let known = c .before .before .before in
     let first = known .before .before in
@@ -34,7 +35,7 @@ returns-3 c =
     rw (ne-eqb _ _ (used .if1 .left), sym (ap (bitAt word) (first .index-of .ensures .0)) ∙ sym (known .before .is-bit .ensures .answer) ∙ not-false _ (known .if2 .left), lt-leb 1 _ (rw (c .before .index-of2 .ensures .0) at (c .if3 .taken)))
 
 returns-4 : tie.Need-returns-4
-unfolding soundRow isFree owner legal stringOf stringAt
+unfolding soundRow isFree owner legal stringIn stringAt
 returns-4 c =
     let long = c .before in
     let known = long .before .before .before in
@@ -45,7 +46,7 @@ returns-4 c =
     rw (ne-eqb _ _ (used .if1 .left), sym (ap (bitAt word) (first .index-of .ensures .0)) ∙ sym (known .before .is-bit .ensures .answer) ∙ not-false _ (known .if2 .left), le-leb 1 _ (rw len at (long .if3 .left)), lt-leb _ 13 (rw len at (c .if4 .taken)))
 
 returns-5 : tie.Need-returns-5
-unfolding soundRow isFree owner legal stringOf stringAt
+unfolding soundRow isFree owner legal stringIn stringAt
 returns-5 c =
     let short = c .before .before in
     let long = short .before in

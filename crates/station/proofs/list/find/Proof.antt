@@ -1,12 +1,9 @@
-use Rattle.station.proofs.PlaceLaws.{held-listed}
 use Rattle.terms.specs.declared.table.Shape.{Shape}
 use Rattle.terms.specs.Tables.{rowHolds}
 use Rattle.rows.specs.Words.{first}
 use denote.Ref.{now}
 use lib.Dec.{lit≤}
-use mathlib.Core.Bool.{Bool}
 use mathlib.Core.Path.{ap, _∙_}
-use Prim.Native.Nat.{ℕ}
 use borrow.Author.Needs.{needs}
 use Rattle.station.proofs.list.find.Statement.{statement}
 use Rattle.station.proofs.list.find.Tie as tie
@@ -17,10 +14,8 @@ find-requires c κs = rw (c .shape .ensures) (c .before .before .pre, lit≤ tt)
 returns : tie.Need-returns
 returns c =
     let a = c .before .before .before .args in
-    let l = now (a .list) in
     c .find .ensures
-    ∙ ap (λ (shape : Shape). first (rowHolds shape l (a .s)) (a .n)) (c .before .shape .ensures)
-    ∙ ap (λ (p : ℕ → Bool). first p (a .n)) (held-listed l (a .s))
+    ∙ ap (λ (shape : Shape). first (rowHolds shape (now (a .list)) (a .s)) (a .n)) (c .before .shape .ensures)
 
 pub find-spec : {M : Type 1} → statement M
 find-spec = tie.close (tie.spec (λ c κs. search needs) find-requires returns)
