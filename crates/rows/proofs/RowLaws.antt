@@ -6,8 +6,8 @@ use native.Mathlib.Omega.{arith}
 use mathlib.Core.Path.{_≡_, refl, sym, ap, _∙_, subst}
 use mathlib.Core.Logic.{_⊎_, inl, inr, ⊎-elim}
 use mathlib.Core.List.{List, [], _∷_, _++_, append-nil, append-assoc}
-use lib.ListN.{length, take, drop, getD, replicate, length-append, length-take, length-drop, take-append-drop, drop-of-length-le, List·getD-append}
-use lib.Seq.{ext-getD, getD-take, getD-drop, getD-append-add, length-take-le, take-at, drop-at, take-all, take-append-le, drop-append-le, drop-append-add, take-length, drop-drop}
+use lib.ListN.{length, take, drop, getD, set, replicate, length-append, length-take, length-drop, take-append-drop, drop-of-length-le, List·getD-append}
+use lib.Seq.{ext-getD, set-split, take-suc, getD-take, getD-drop, getD-append-add, length-take-le, take-at, drop-at, take-all, take-append-le, drop-append-le, drop-append-add, take-length, drop-drop}
 use borrow.Author.Tests.{ltb-true, ltb-false}
 use lib.Dec.{ltb}
 use Rattle.rows.proofs.BoolLaws.{by-test}
@@ -122,6 +122,15 @@ module _ (l : List ℕ) (at : ℕ) (p : List ℕ) (fits : at + length p ≤ leng
       rw (getD-take n (drop b (put l at p)) k 0 lt, getD-take n (drop b l) k 0 lt, getD-drop b (put l at p) k 0, getD-drop b l k 0)
       (⊎-elim (λ lo. before (b + k) (omega arith)) (λ hi. after (b + k) (omega arith)) apart))
 
+-- one byte stored is a part of one byte put down, and a part with the byte behind it
+pub set-put : (l : List ℕ) (at x : ℕ) → at < length l → set l at x ≡ put l at (x ∷ [])
+unfolding put
+set-put l at x h = set-split l at x h ∙ ap (λ (r : List ℕ). take at l ++ x ∷ r) (sym (drop-drop 1 at l ∙ ap (λ (k : ℕ). drop k l) (add-one at)))
+
+pub part-more : (l : List ℕ) (at n : ℕ) → at + n < length l → part l at (n + 1) ≡ part l at n ++ (getD l (at + n) 0 ∷ [])
+unfolding part
+part-more l at n h = rw (add-one n, ← getD-drop at l n 0) (take-suc (drop at l) n 0 (omega (arith, length-drop at l)))
+
 -- a part put back where it stands
 pub put-part : (l : List ℕ) (at n : ℕ) → at + n ≤ length l → put l at (part l at n) ≡ l
 unfolding put part
@@ -147,6 +156,26 @@ put-last l p at h = rw (drop-drop, drop-of-length-le l {i = at + length p} (omeg
 pub put-behind : (a b p : List ℕ) (at : ℕ) → length a ≡ at → put (a ++ b) at p ≡ a ++ over p b
 unfolding put
 put-behind a b p at h = rw (take-at a b at h, drop-at a b at h)
+
+-- a part moved down to `to`, byte by byte: its begin and a turn. What is read lies behind what was written
+module _ (l : List ℕ) (from to : ℕ) where
+  pub slide-none : l ≡ put l to (part l from 0)
+  unfolding put part
+  slide-none = sym (take-append-drop to l)
+
+  pub slide-more : (k : ℕ) → to ≤ from → from + k < length l → set (put l to (part l from k)) (to + k) (getD (put l to (part l from k)) (from + k) 0) ≡ put l to (part l from (k + 1))
+  slide-more k below inside =
+      let p = part l from k in
+      let long : length p ≡ k = length-part l from k (omega arith) in
+      let fits : to + length p ≤ length l = omega arith in
+      let x = getD l (from + k) 0 in
+      let read : getD (put l to p) (from + k) 0 ≡ x =
+      sym (head-part (put l to p) (from + k) 1 (omega arith))
+      ∙ ap (λ (r : List ℕ). getD r 0 0) (part-put-apart l to p fits (from + k) 1 (inr (omega (arith, long))))
+      ∙ head-part l (from + k) 1 (omega arith)
+      in
+      rw (read, set-put (put l to p) (to + k) x (omega (arith, length-put l to p fits)))
+      (put-next l p (x ∷ []) to (to + k) (omega (arith, long)) (omega arith) ∙ ap (put l to) (sym (part-more l from k inside)))
 
 -- what was put down so far, over the front of the bytes: its begin, and one more part
 pub over-first : (l p : List ℕ) → put l 0 p ≡ over p l

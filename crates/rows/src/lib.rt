@@ -27,6 +27,18 @@ pub fn put(s: &mut [u8], at: usize, p: &[u8])
     bytes::copy(p, &mut s[at..end]);
 }
 
+// Moves the n bytes at `from` down to `to`, one by one.
+pub fn slide(s: &mut [u8], from: usize, to: usize, n: usize)
+    requires { ⌜ (to ≤ from) × (from + n ≤ length (now s)) ⌝ }
+    ensures { λ _. ⌜ now (s .exit) ≡ putIn (now (s .entry)) to (partOf (now (s .entry)) from n) ⌝ }
+{
+    let mut k: usize = 0;
+    while k < n {
+        s[to + k] = s[from + k];
+        k += 1;
+    }
+}
+
 // Puts r down n times, one after the other, at the start of s.
 pub fn fill(s: &mut [u8], n: usize, r: &[u8])
     requires { ⌜ length (now r) * n ≤ length (now s) ⌝ }

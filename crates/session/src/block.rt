@@ -1,8 +1,7 @@
 // A block of input: its whole records are served one after the other, and a line is written for each.
 ghost use mathlib.Core.Path.{_≡_};
-ghost use Prim.Native.Nat.{_+_, _-_, _*_, _^_, _≤_, _<_};
+ghost use Prim.Native.Nat.{_+_, _*_, _^_, _≤_, _<_};
 ghost use lib.ListN.{length, drop};
-ghost use Rattle.rows.specs.Rows.{part, over};
 ghost use Rattle.lines.specs.Line.{ROOM};
 ghost use Rattle.session.specs.Records.{wholeSize};
 ghost use Rattle.session.specs.Session.{Adds, Plays};
@@ -84,18 +83,5 @@ pub fn play(
         at,
         index: next,
         used,
-    }
-}
-
-// Moves the bytes from `at` to `end` to the start.
-pub fn keep(input: &mut [u8], at: usize, end: usize)
-    requires { ⌜ (at ≤ end) × (end ≤ length (now input)) ⌝ }
-    ensures { λ _. ⌜ now (input .exit) ≡ over (part (now (input .entry)) at (end - at)) (now (input .entry)) ⌝ }
-{
-    let n = end - at;
-    let mut k: usize = 0;
-    while k < n {
-        input[k] = input[at + k];
-        k += 1;
     }
 }

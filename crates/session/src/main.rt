@@ -82,9 +82,10 @@ fn take_turn(
     let at = played.at;
     let used = played.used;
     let more = io::write_all(STDOUT_FILENO, &output[..used]);
-    block::keep(input, at, end);
+    let rest = end - at;
+    rows::slide(input, at, 0, rest);
     Turn {
-        kept: end - at,
+        kept: rest,
         index: played.index,
         more,
     }

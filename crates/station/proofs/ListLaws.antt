@@ -6,13 +6,12 @@ use mathlib.Core.Bool.{Bool, true, cond}
 use mathlib.Core.List.{List, [], _++_, append-nil}
 use lib.Dec.{ltb}
 use lib.ListN.{length, take, drop, replicate, length-drop, length-append, length-replicate, drop-of-length-le}
-use lib.Seq.{length-take-le, take-nil, take-append-add}
+use lib.Seq.{length-take-le, take-nil}
 use borrow.Author.Tests.{ltb-true, ltb-false, le-ltb}
 use Rattle.rows.specs.Rows.{part, put, row}
 use Rattle.rows.proofs.BoolLaws.{by-test, by-eq}
 use Rattle.rows.proofs.IndexLaws.{first-found, found-if}
-use Rattle.rows.proofs.BuildLaws.{take-zeros, drop-zeros}
-use Rattle.rows.proofs.RowLaws.{part-rest, part-end, part-append, part-right, part-take, part-drop, put-last, over-first, length-setRow, row-setRow, row-setRow-other}
+use Rattle.rows.proofs.RowLaws.{length-part, part-rest, part-end, part-append, part-right, part-take, part-drop, put-next, put-last, length-setRow, row-setRow, row-setRow-other}
 use Rattle.terms.specs.declared.LockString.{LockString}
 use Rattle.station.specs.State.{placeCount, unused, listed, added, struckAt}
 use Rattle.station.proofs.PlaceLaws.{placed, placed-long}
@@ -21,36 +20,19 @@ use Rattle.station.proofs.PlaceLaws.{placed, placed-long}
 pub count-is : (n : ℕ) (l : List ℕ) → length l ≡ 14 * n → placeCount l ≡ n
 count-is n l sized = omega arith
 
--- the r bytes after place i, over zeros, put down where place i was
-module _ (l : List ℕ) (i r : ℕ) (sized : length l ≡ 14 * i + 14 + r) (k : ℕ) (room : r + 14 ≤ k) where
-  tail : List ℕ
-  tail = drop (14 * i + 14) l
-
-  tail-long : length tail ≡ r
-  unfolding tail
-  tail-long = length-drop (14 * i + 14) l ∙ omega arith
-
-  tail-part : part l (14 * i + 14) r ≡ tail
-  unfolding tail
-  tail-part = sym (append-nil (part l (14 * i + 14) r)) ∙ rw (← drop-of-length-le l {i = 14 * i + 14 + r} (omega arith)) (part-rest l (14 * i + 14) r)
-
-  behind : List ℕ
-  behind = drop (length tail) (replicate k 0)
-
-  behind-zeros : take 14 behind ≡ replicate 14 0
-  unfolding behind
-  behind-zeros =
-      rw (drop-zeros k (length tail) (omega (arith, tail-long))) (take-zeros (k - length tail) 14 (omega (arith, tail-long)))
-
-  tail-moved : take (r + 14) (put (replicate k 0) 0 (part l (14 * i + 14) r)) ≡ tail ++ replicate 14 0
-  unfolding behind
-  tail-moved =
-      rw (tail-part, over-first)
-      (ap (λ (n : ℕ). take (n + 14) (tail ++ behind)) (sym tail-long) ∙ take-append-add tail behind 14 ∙ ap (λ (z : List ℕ). tail ++ z) behind-zeros)
-
-  pub struck-laid : put l (14 * i) (take (r + 14) (put (replicate k 0) 0 (part l (14 * i + 14) r))) ≡ struckAt l i
-  unfolding struckAt tail
-  struck-laid = rw tail-moved (put-last l (tail ++ replicate 14 0) (14 * i) (sized ∙ omega (arith, length-append tail (replicate 14 0), tail-long)))
+-- what stands after place i moved to where it was, and zeros put down behind it
+pub struck-laid : (l : List ℕ) (i : ℕ) → 14 * i + 14 ≤ length l → put (put l (14 * i) (part l (14 * i + 14) (length l - 14 - 14 * i))) (length l - 14) (replicate 14 0) ≡ struckAt l i
+unfolding struckAt
+struck-laid l i inside =
+    let r = length l - 14 - 14 * i in
+    let tail = part l (14 * i + 14) r in
+    let long : length tail ≡ r = length-part l (14 * i + 14) r (omega arith) in
+    let last : tail ≡ drop (14 * i + 14) l =
+    sym (append-nil tail) ∙ rw (← drop-of-length-le l {i = 14 * i + 14 + r} (omega arith)) (part-rest l (14 * i + 14) r)
+    in
+    put-next l tail (replicate 14 0) (14 * i) (length l - 14) (omega (arith, long)) (omega arith)
+    ∙ put-last l (tail ++ replicate 14 0) (14 * i) (omega (arith, length-append tail (replicate 14 0), long))
+    ∙ ap (λ (t : List ℕ). take (14 * i) l ++ (t ++ replicate 14 0)) last
 
 -- a place past the end reads as an unused one
 pub row-past : (n : ℕ) (l : List ℕ) → length l ≡ 14 * n → row 14 l n ≡ []

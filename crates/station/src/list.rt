@@ -8,10 +8,12 @@ ghost use lib.ListN.{length};
 ghost use Rattle.rows.specs.Words.{first};
 ghost use Rattle.rows.specs.Rows.{put as putIn};
 ghost use Rattle.terms.specs.Strings.{stringBytes, normal};
-ghost use Rattle.station.specs.State.{listLength, places, unused, listedAt, struckAt};
+ghost use Rattle.station.specs.State.{places, unused, listedAt, struckAt};
 ghost use Rattle.station.specs.Asks.{struck};
 
 pub const PLACE: usize = 14;
+
+const UNUSED: [u8; 14] = [0, 0, 0, 0, 0, 0, 0, 0, 0, 0, 0, 0, 0, 0];
 
 // How the places hold their strings.
 pub fn shape() -> Shape
@@ -65,19 +67,17 @@ pub fn put(list: &mut [u8], i: usize, s: LockString)
 
 // Strikes place i: the places after it move down by one, and the last becomes unused.
 fn strike_at(list: &mut [u8], i: usize)
-    requires { ⌜ (length (now list) ≡ listLength) × (14 * i + 14 ≤ listLength) ⌝ }
+    requires { ⌜ 14 * i + 14 ≤ length (now list) ⌝ }
     ensures { λ _. ⌜ now (list .exit) ≡ struckAt (now (list .entry)) i ⌝ }
 {
     let at = PLACE * i;
-    let rest = list.len() - at - PLACE;
-    let mut moved = [0u8; 896];
-    rows::put(&mut moved, 0, rows::part(list, at + PLACE, rest));
-    rows::put(list, at, &moved[..rest + PLACE]);
+    let last = list.len() - PLACE;
+    rows::slide(list, at + PLACE, at, last - at);
+    rows::put(list, last, &UNUSED);
 }
 
 // Strikes s from the list where it is legal and listed.
 pub fn strike(list: &mut [u8], s: LockString)
-    requires { ⌜ length (now list) ≡ listLength ⌝ }
     ensures { λ _. ⌜ now (list .exit) ≡ struck (now (list .entry)) s ⌝ }
 {
     if !terms::is_legal(s) {

@@ -22,17 +22,28 @@ play-requires c κs = let long = length-take-le (c .before .before .before .befo
 slice-aggregate-write-all-2 : tie.Need-slice-aggregate-write-all-2
 slice-aggregate-write-all-2 c = sym (length-take-le _ _ (omega (arith, c .before .before .before .before .before .before .before .play)))
 
-keep-requires : tie.Need-keep-requires
-keep-requires c κs = let long = length-take-le (c .before .before .before .before .before .before .before .before .before .before .before .before .before .before .before .before .before .read-more .result) (c .before .before .before .before .before .before .before .before .before .before .before .before .before .before .before .before .before .read-more .last .0) (omega (arith, c .before .before .before .before .before .before .before .before .before .before .before .before .before .before .before .before .before .read-more, c .before .before .before .before .before .before .before .before .before .before .before .before .before .before .before .before .before .before .before .before .before .before .before .before .pre)) in omega (arith, c .before .before .before .before .before .before .before .before .before .play .ensures)
+sub-rest : tie.Need-sub-rest
+sub-rest c =
+    let played = c .before .before .before .before .before .before .before .before in
+    let more = played .before .before .before .before .before .before .before .before in
+    let long = length-take-le (more .read-more .result) (more .read-more .last .0) (omega (arith, more .read-more, more .before .before .before .before .before .before .before .pre)) in
+    omega (arith, played .play .ensures)
 
-sub-t34 : tie.Need-sub-t34
-sub-t34 c = let long = length-take-le (c .before .before .before .before .before .before .before .before .before .before .before .before .before .before .before .before .before .before .before .before .read-more .result) (c .before .before .before .before .before .before .before .before .before .before .before .before .before .before .before .before .before .before .before .before .read-more .last .0) (omega (arith, c .before .before .before .before .before .before .before .before .before .before .before .before .before .before .before .before .before .before .before .before .read-more, c .before .before .before .before .before .before .before .before .before .before .before .before .before .before .before .before .before .before .before .before .before .before .before .before .before .before .before .pre)) in omega (arith, c .before .before .before .before .before .before .before .before .before .before .before .before .play .ensures)
+slide-requires : tie.Need-slide-requires
+slide-requires c κs =
+    let played = c .before .before .before .before .before .before .before .before .before in
+    let more = played .before .before .before .before .before .before .before .before in
+    let long = length-take-le (more .read-more .result) (more .read-more .last .0) (omega (arith, more .read-more, more .before .before .before .before .before .before .before .pre)) in
+    omega (arith, played .play .ensures)
 
 returns-3 : tie.Need-returns-3
-returns-3 c = let more = c .before .before .before .before .before .before .before .before .before .before .before .before .before .before .before .before .before .before .before .before .read-more in
-    let long = length-take-le (more .result) (more .last .0) (omega (arith, more, c .before .before .before .before .before .before .before .before .before .before .before .before .before .before .before .before .before .before .before .before .before .before .before .before .before .before .before .pre)) in (
-      omega (arith, c .before .before .before .before .before .before .before .before .before .before .before .before .play .ensures, more, c .before .before .before .before .before .before .before .before .before .before .before .before .before .before .before .before .before .before .before .before .before .before .before .before .before .before .before .pre),
-      λ e. takes _ _ _ _ _ _ _ _ _ _ _ _ _ _ (more .ensures .0) (omega (arith, more)) (omega (arith, c .before .before .before .before .before .before .before .before .before .before .before .before .play .ensures)) (more .ensures .2) (c .before .before .before .before .before .before .before .before .before .before .before .before .play .ensures) (c .before .before .keep .ensures),
+returns-3 c =
+    let played = c .before .before .before .before .before .before .before .before .before .before .before .before in
+    let more = played .before .before .before .before .before .before .before .before .read-more in
+    let start = played .before .before .before .before .before .before .before .before .before .before .before .before .before .before .before in
+    let long = length-take-le (more .result) (more .last .0) (omega (arith, more, start .pre)) in (
+      omega (arith, played .play .ensures, more, start .pre),
+      λ e. takes _ _ _ _ _ _ _ _ _ _ _ _ _ _ (more .ensures .0) (omega (arith, more)) (omega (arith, played .play .ensures)) (more .ensures .2) (played .play .ensures) (c .before .before .slide .ensures),
     )
 
 pub take-turn-spec : {M : Type 1} → statement M
@@ -52,8 +63,8 @@ take-turn-spec =
     (λ c. search needs)
     slice-aggregate-write-all-2
     (λ c κs. search needs)
-    keep-requires
-    sub-t34
+    sub-rest
+    slide-requires
     (λ c. search needs)
     (λ c. search needs)
     (λ c. search needs)

@@ -24,11 +24,6 @@ unfolding listOf
 slice-aggregate-strike c = let st = now (c .before .before .before .before .before .args .state) in
     sym (list-long st (state-is st (askable st (sym (c .before .before .ask-refusal .ensures) ∙ c .before .if1 .left) .0) .sized))
 
-strike-requires : tie.Need-strike-requires
-unfolding listOf
-strike-requires c κs = let st = now (c .before .before .before .before .before .args .state) in
-    list-long st (state-is st (askable st (sym (c .before .before .ask-refusal .ensures) ∙ c .before .if1 .left) .0) .sized)
-
 await-string-requires : tie.Need-await-string-requires
 unfolding listOf
 await-string-requires c κs = let st = now (c .before .before .before .before .before .before .before .before .before .args .state) in
@@ -52,7 +47,7 @@ ask-unlock-spec =
     returns
     slice-relend-prefix-strike
     slice-aggregate-strike
-    strike-requires
+    (λ c κs. tt)
     await-string-requires
     (λ c. search needs)
     returns-2)
