@@ -14,7 +14,7 @@ use Rattle.site.specs.Rules.{goodHeader, sameName, namedAt, nameAlone, tracks, 
 use Rattle.site.specs.Found.{userIs, hasUser, indexOfNumber}
 use Rattle.who.specs.Records.{flag, bytesOf, stationOf, flagged}
 use Rattle.who.specs.Good.{goodCounts, plain as plainStation, goodStation, goodFrom, goodRow, isRow, stationsOf, goodRecords}
-use Rattle.who.specs.Logins.{loggedIn, freeNumber, lowestFree as lowestNumber, loggedInAs, afterLogin, afterLogout, freshRecords}
+use Rattle.who.specs.Logins.{loggedIn, freeNumber, lowestNumber, loggedInAs, afterLogin, afterLogout, freshRecords}
 use Rattle.locks.specs.Row.{owner, rowOf, freed}
 use Rattle.locks.specs.Table.{ownerAt, heldAt, lowestFree, isHeld, isOwn, lockStatus, lockTable, unlocks, unlockStatus, unlockTable, clearedTable}
 use Rattle.locks.specs.Good.{soundRow, soundAt, soundRows, goodLocks, freshLocks}

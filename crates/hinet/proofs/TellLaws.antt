@@ -30,7 +30,7 @@ use Rattle.site.specs.Places.{inside, placeOn, refused, placedOn, placedIn, pla
 use Rattle.site.proofs.RuleLaws.{ranged-is, site-partition}
 use Rattle.site.proofs.PlaceLaws.{place-ends}
 use Rattle.who.specs.Good.{numbers}
-use Rattle.who.specs.Logins.{lowestFree, loggedIn}
+use Rattle.who.specs.Logins.{lowestNumber, loggedIn}
 use Rattle.locks.specs.Table.{rowCount, freeAt, isHeld, isOwn, lockStatus, unlocks, unlockStatus}
 use Rattle.master.specs.Refusals.{ANYBODY, unknown, misplaced, srcDiffers, placeRefusal, frameTests, frameRefusal, refusal}
 use Rattle.master.specs.Tables.{goodTables}
@@ -78,7 +78,7 @@ place-on-fits r a g = by-test (inside r a)
 -- the number given at login
 given-small : (w : List ℕ) → numberGiven w < 256
 unfolding numberGiven
-given-small w = by-test (ltb (lowestFree w) numbers) (λ y. rw y (omega (arith, ltb-true (lowestFree w) numbers y))) (λ m. rw m (omega arith))
+given-small w = by-test (ltb (lowestNumber w) numbers) (λ y. rw y (omega (arith, ltb-true (lowestNumber w) numbers y))) (λ m. rw m (omega arith))
 
 module _ (s : List ℕ) where
   place-fits : goodSite s ≡ true → (a : Address) → Tellable (placeTold (placedIn s a))

@@ -11,8 +11,8 @@ use Rattle.rows.proofs.BoolLaws.{by-eq, both, and-both, by-test}
 use Rattle.rows.specs.Rows.{row}
 use Rattle.terms.specs.declared.LockString.{LockString}
 use Rattle.who.specs.Good.{goodCounts, goodRecords, numbers}
-use Rattle.who.specs.Logins.{loggedIn, lowestFree, loggedInAs, afterLogin, afterLogout, freshRecords}
-use Rattle.who.proofs.WhoLaws.{good-is, logged-below, lowest-free-is, login-good, login-logged, login-other, logout-good, logout-logged, logout-other}
+use Rattle.who.specs.Logins.{loggedIn, lowestNumber, loggedInAs, afterLogin, afterLogout, freshRecords}
+use Rattle.who.proofs.WhoLaws.{good-is, logged-below, lowest-number-is, login-good, login-logged, login-other, logout-good, logout-logged, logout-other}
 use Rattle.who.proofs.WhoLaws
 use Rattle.locks.specs.Good.{locks, goodLocks, freshLocks}
 use Rattle.locks.specs.Holding.{has}
@@ -54,8 +54,8 @@ module _ (t w : List ℕ) (good : goodTables t w ≡ true) where
 
   pub given-free : (numberGiven w ≡ 0 → ⊥) → Free (numberGiven w)
   unfolding numberGiven
-  given-free ne = by-test (ltb (lowestFree w) numbers)
-      (λ y. let l = lowest-free-is w sized (ltb-true _ _ y) in rw y (record { first = l .0; below = ltb-true _ _ y; out = l .1 }))
+  given-free ne = by-test (ltb (lowestNumber w) numbers)
+      (λ y. let l = lowest-number-is w sized (ltb-true _ _ y) in rw y (record { first = l .0; below = ltb-true _ _ y; out = l .1 }))
       (λ m. absurd (ne (rw m)))
 
   -- a login: the number is logged in, all who were in stay in, and good tables stay good

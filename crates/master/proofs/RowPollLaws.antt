@@ -29,7 +29,7 @@ use Rattle.master.specs.Polls.{withCounts, afterTurn, turnRefusal, dueNo
 use Rattle.master.specs.RowPolls.{rowRefusal, RowPolls, rowEffect}
 use Rattle.master.specs.Answers.{turnTold}
 use Rattle.master.specs.Effects.{unless}
-use Rattle.master.specs.Inner.{seatRefusal, early, stepRefusal, Steps, readAt}
+use Rattle.master.specs.Inner.{seatRefusal, early, stepRefusal, MakesStep, readAt}
 use Rattle.master.proofs.EffectLaws.{refusing}
 use Rattle.master.proofs.PollLaws.{seated, refusal-last}
 
@@ -58,18 +58,18 @@ module _ (n : ℕ) (heard : Bool) (s : Station) (t : List ℕ) (r : Turn) (decid
   early-is = ap (λ (b : Bool). heard && not b) due-is
 
   -- 12; a turn that ends in a logout; a turn that does not
-  pub steps-12 : (heard && not (r .due)) ≡ true → Steps (early s heard) n s heard t (record { next = s; answer = Refused 12 }) t
+  pub steps-12 : (heard && not (r .due)) ≡ true → MakesStep (early s heard) n s heard t (record { next = s; answer = Refused 12 }) t
   unfolding early unless turnTold
   steps-12 y = let h = sym early-is ∙ y in record { answer = rw h; locks = rw h; records = rw h }
 
-  pub steps-out : (heard && not (r .due)) ≡ false → r .out ≡ true → (x : Station) (t′ : List ℕ) → x ≡ vacant → t′ ≡ clearedTable t n → Steps (early s heard) n s heard t (record { next = x; answer = Turned′ (r .due) true }) t′
+  pub steps-out : (heard && not (r .due)) ≡ false → r .out ≡ true → (x : Station) (t′ : List ℕ) → x ≡ vacant → t′ ≡ clearedTable t n → MakesStep (early s heard) n s heard t (record { next = x; answer = Turned′ (r .due) true }) t′
   unfolding early unless stationTurn turnTold
   steps-out m y x t′ a b =
       let h = sym early-is ∙ m in
       let o : outNow s heard ≡ true = sym out-is ∙ y in
       record { answer = rw (h, o, due-is); locks = rw (h, o) b; records = rw (h, o) a }
 
-  pub steps-on : (heard && not (r .due)) ≡ false → r .out ≡ false → (x : Station) → x ≡ withCounts s (r .misses) (r .slow) → Steps (early s heard) n s heard t (record { next = x; answer = Turned′ (r .due) false }) t
+  pub steps-on : (heard && not (r .due)) ≡ false → r .out ≡ false → (x : Station) → x ≡ withCounts s (r .misses) (r .slow) → MakesStep (early s heard) n s heard t (record { next = x; answer = Turned′ (r .due) false }) t
   unfolding early unless stationTurn turnTold
   steps-on m y x a =
       let h = sym early-is ∙ m in
@@ -85,11 +85,11 @@ module _ (word n : ℕ) (heard : Bool) (s : Station) (t : List ℕ) where
   unfolding stepRefusal early
   step-refusal = refusal-last (goodLocks (bitAt word) t) (bitAt word) n heard (dueNow s)
 
-  pub steps-refused : (k : ℕ) → k ≡ seat → (k ≡ 0 → ⊥) → Steps (stepRefusal word n s heard t) n s heard t (record { next = s; answer = Refused k }) t
+  pub steps-refused : (k : ℕ) → k ≡ seat → (k ≡ 0 → ⊥) → MakesStep (stepRefusal word n s heard t) n s heard t (record { next = s; answer = Refused k }) t
   unfolding turnTold
   steps-refused k e ne = let same : stepRefusal word n s heard t ≡ k = step-refusal ∙ rw (sym e, ne-eqb k 0 ne) in rw same (refusing k t s (stationTurn n s heard t) ne)
 
-  pub steps-turned : seat ≡ 0 → (p : Step) (t′ : List ℕ) → Steps (early s heard) n s heard t p t′ → Steps (stepRefusal word n s heard t) n s heard t p t′
+  pub steps-turned : seat ≡ 0 → (p : Step) (t′ : List ℕ) → MakesStep (early s heard) n s heard t p t′ → MakesStep (stepRefusal word n s heard t) n s heard t p t′
   steps-turned z p t′ d = let same : stepRefusal word n s heard t ≡ early s heard = step-refusal ∙ rw z in rw same d
 
 -- the record that is read for a number is one of the row
@@ -134,14 +134,14 @@ module _ (n : ℕ) (heard : Bool) (xs : List Station) (t : List ℕ) where
     unfolding rowRefusal
     row-own z = in-own (seated _ (isIn xs) n heard (dueNow (stationIn xs n)) z .is-in)
 
-    pub row-steps : (p : Step) (t′ : List ℕ) → Steps (stepRefusal (rollOf xs .word) n (stationIn xs at) heard t) n (stationIn xs at) heard t p t′ → RowPolls n heard xs t (p .answer) (set xs at (p .next)) t′
+    pub row-steps : (p : Step) (t′ : List ℕ) → MakesStep (stepRefusal (rollOf xs .word) n (stationIn xs at) heard t) n (stationIn xs at) heard t p t′ → RowPolls n heard xs t (p .answer) (set xs at (p .next)) t′
     unfolding rowEffect stationIn unless
     row-steps p t′ d₀ =
         let k = rowRefusal n heard xs t in
-        let d = subst (λ (j : ℕ). Steps j n (stationIn xs at) heard t p t′) row-same d₀ in
+        let d = subst (λ (j : ℕ). MakesStep j n (stationIn xs at) heard t p t′) row-same d₀ in
         by-eq k 0
         (λ z.
-        let own = subst (λ (i : ℕ). Steps k n (stationIn xs i) heard t p t′) (row-own z) d in record {
+        let own = subst (λ (i : ℕ). MakesStep k n (stationIn xs i) heard t p t′) (row-own z) d in record {
           answer = own .answer ∙ rw z;
           locks = own .locks ∙ rw z;
           records = ap (λ (i : ℕ). set xs i (p .next)) (row-own z) ∙ ap (set xs n) (own .records) ∙ rw z;

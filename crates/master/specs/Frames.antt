@@ -15,7 +15,7 @@ use Rattle.site.specs.Layout.{partitions, partitionRow, partitionPassword}
 use Rattle.site.specs.Found.{hasUser, indexOfName}
 use Rattle.site.specs.Places.{placedIn}
 use Rattle.who.specs.Good.{numbers}
-use Rattle.who.specs.Logins.{lowestFree, loggedInAs, afterLogin, afterLogout}
+use Rattle.who.specs.Logins.{lowestNumber, loggedInAs, afterLogin, afterLogout}
 use Rattle.locks.specs.Table.{lockStatus, lockTable, unlockStatus, unlockTable, clearedTable}
 use Rattle.master.specs.Answers.{Told, refuses, answers, told, no-bytes, status-byte, assign-bytes, place-at, login-as}
 use Rattle.master.specs.declared.Answer.{Answer}
@@ -28,7 +28,7 @@ placeTold p = cond (eqb (p .refusal) 0) (answers (place-at (p .place .volume .0)
 
 -- login: the number given is the lowest free one from 1 to 63, or 0 where all 63 are in use
 unfoldable pub numberGiven : List ℕ → ℕ
-numberGiven w = cond (ltb (lowestFree w) numbers) (lowestFree w) 0
+numberGiven w = cond (ltb (lowestNumber w) numbers) (lowestNumber w) 0
 
 unfoldable pub nameFound : Request → List ℕ → Bool
 nameFound q s = hasUser s (q .name) (q .password)

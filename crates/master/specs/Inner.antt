@@ -47,8 +47,8 @@ unfoldable pub stepRefusal : ℕ → ℕ → Station → Bool → List ℕ → �
 stepRefusal word n s heard t = turnRefusal (goodLocks (bitAt word) t) (bitAt word) n heard (dueNow s)
 
 -- the turn of one record, with refusal k
-abbrev pub Steps : ℕ → ℕ → Station → Bool → List ℕ → Step → List ℕ → Type 0
-Steps k n s heard t p t′ = Does (unless k t s (stationTurn n s heard t)) (turnTold (p .answer)) t′ (p .next)
+abbrev pub MakesStep : ℕ → ℕ → Station → Bool → List ℕ → Step → List ℕ → Type 0
+MakesStep k n s heard t p t′ = Does (unless k t s (stationTurn n s heard t)) (turnTold (p .answer)) t′ (p .next)
 
 -- the record that a turn of the number n reads: its own, or the first where it has none
 unfoldable pub readAt : ℕ → ℕ

@@ -45,7 +45,7 @@ fn log_in(q: Request, product: u8, site: &[u8], records: &mut [u8]) -> Answer
     let password = q.password;
     let serial = q.serial;
     let sent = rows::four_at(&serial, 0);
-    let number = who::lowest_free(records);
+    let number = who::lowest_number(records);
     if who::NUMBERS <= number {
         return Answer::LoggedIn {
             number: 0,

@@ -110,7 +110,7 @@ pub fn poll_row(row: &mut [Station], locks: &mut [u8], number: u32, heard: bool)
         return Turned::Refused(11);
     }
     let at = poll::slot_of(number);
-    let polled = poll::poll_one(row[at], roll.word, number, heard, locks);
+    let polled = poll::poll_record(row[at], roll.word, number, heard, locks);
     row[at] = polled.next;
     polled.answer
 }

@@ -14,7 +14,7 @@ ghost use Rattle.who.specs.Good.{goodCounts, numbers};
 ghost use Rattle.master.specs.Refusals.{unknown};
 ghost use Rattle.master.specs.Polls.{withCounts};
 ghost use Rattle.locks.specs.Good.{goodLocks};
-ghost use Rattle.master.specs.Inner.{seatRefusal, early, stepRefusal, readAt, Steps, Lends, isTurn, writtenBack};
+ghost use Rattle.master.specs.Inner.{seatRefusal, early, stepRefusal, readAt, MakesStep, Lends, isTurn, writtenBack};
 
 // The number is nobody's, by the word of who is logged in.
 fn is_stranger(number: u32, word: u64) -> bool
@@ -70,9 +70,9 @@ fn word_refusal(word: u64, number: u32, locks: &[u8]) -> u8
 }
 
 // The turn of a record that is logged in: 12, or the turn. A station that is out loses its locks and its record.
-fn turn_one(s: Station, number: u8, heard: bool, locks: &mut [u8]) -> Step
+fn turn_record(s: Station, number: u8, heard: bool, locks: &mut [u8]) -> Step
     requires { ⌜ goodCounts (s .misses) (s .slow) ≡ true ⌝ }
-    ensures { λ r. ⌜ Steps (early s heard) number s heard (now (locks .entry)) r (now (locks .exit)) ⌝ }
+    ensures { λ r. ⌜ MakesStep (early s heard) number s heard (now (locks .entry)) r (now (locks .exit)) ⌝ }
 {
     let turn = who::turn_of(s.misses, s.slow, heard);
     if is_early(heard, turn.due) {
@@ -109,9 +109,9 @@ pub fn slot_of(number: u32) -> usize
 }
 
 // The turn of one record of a good row with this word of who is logged in: 11, 2, 5, 12, or the turn.
-pub fn poll_one(s: Station, word: u64, number: u32, heard: bool, locks: &mut [u8]) -> Step
+pub fn poll_record(s: Station, word: u64, number: u32, heard: bool, locks: &mut [u8]) -> Step
     requires { ⌜ goodCounts (s .misses) (s .slow) ≡ true ⌝ }
-    ensures { λ r. ⌜ Steps (stepRefusal word number s heard (now (locks .entry))) number s heard (now (locks .entry)) r (now (locks .exit)) ⌝ }
+    ensures { λ r. ⌜ MakesStep (stepRefusal word number s heard (now (locks .entry))) number s heard (now (locks .entry)) r (now (locks .exit)) ⌝ }
 {
     let refusal = word_refusal(word, number, locks);
     if refusal != 0 {
@@ -120,7 +120,7 @@ pub fn poll_one(s: Station, word: u64, number: u32, heard: bool, locks: &mut [u8
             answer: Turned::Refused(refusal),
         };
     }
-    turn_one(s, number as u8, heard, locks)
+    turn_record(s, number as u8, heard, locks)
 }
 
 // The turn over the records in bytes: they are read into a row, the one row that there is, and that is lent. Its own

@@ -17,7 +17,7 @@ use Rattle.who.specs.declared.Station.{Station}
 use Rattle.who.specs.Records.{bytesOf, stationOf, nobody, localUser}
 use Rattle.who.specs.Good.{goodCounts, numbers, goodRow, isRow, stationsOf, goodRecords}
 use Rattle.who.specs.Row.{isIn}
-use Rattle.who.specs.Logins.{recordCount, loggedIn, freeNumber, lowestFree, afterLogin, afterLogout, freshRecords}
+use Rattle.who.specs.Logins.{recordCount, loggedIn, freeNumber, lowestNumber, afterLogin, afterLogout, freshRecords}
 use Rattle.who.proofs.RecordLaws.{Sound, nobody-sound, local-sound, flag-back, logged-bytesOf, length-bytesOf, bytesOf-sound}
 use Rattle.who.proofs.RowLaws.{in-past, length-stations, station-read, rulesAt, row-each, row-is, is-row}
 
@@ -144,18 +144,18 @@ module _ (w : List ℕ) where
   taken n l h = not-false _ (rw (le-leb 1 n l) at h)
 
   module _ (sized : length w ≡ 18 * numbers) where
-    lowest-first : lowestFree w ≡ first (freeNumber w) numbers
-    unfolding lowestFree
+    lowest-first : lowestNumber w ≡ first (freeNumber w) numbers
+    unfolding lowestNumber
     lowest-first = ap (first (freeNumber w)) (counted w sized)
 
-    below-lowest : (m : ℕ) → 1 ≤ m → m < lowestFree w → loggedIn w m ≡ true
+    below-lowest : (m : ℕ) → 1 ≤ m → m < lowestNumber w → loggedIn w m ≡ true
     below-lowest m l b = taken m l (first-least (freeNumber w) numbers m (rw lowest-first at b))
 
     -- where there is one, it is free and every number before it is taken
-    pub lowest-free-is : lowestFree w < numbers → (1 ≤ lowestFree w) × (loggedIn w (lowestFree w) ≡ false) × ((m : ℕ) → 1 ≤ m → m < lowestFree w → loggedIn w m ≡ true)
-    lowest-free-is b =
+    pub lowest-number-is : lowestNumber w < numbers → (1 ≤ lowestNumber w) × (loggedIn w (lowestNumber w) ≡ false) × ((m : ℕ) → 1 ≤ m → m < lowestNumber w → loggedIn w m ≡ true)
+    lowest-number-is b =
         let found = found-if (freeNumber w) numbers (rw lowest-first at b) in
-        let here = free (lowestFree w) (rw lowest-first (first-found (freeNumber w) numbers found .1)) in
+        let here = free (lowestNumber w) (rw lowest-first (first-found (freeNumber w) numbers found .1)) in
         (here .0, here .1, below-lowest)
 
 -- the fresh records are 64 times nobody, with user 0 put down over the first

@@ -22,8 +22,8 @@ unfoldable pub freeNumber : List ℕ → ℕ → Bool
 freeNumber w n = leb 1 n && not (loggedIn w n)
 
 -- the lowest free number from 1 on, or the number of records where there is none
-unfoldable pub lowestFree : List ℕ → ℕ
-lowestFree w = first (freeNumber w) (recordCount w)
+unfoldable pub lowestNumber : List ℕ → ℕ
+lowestNumber w = first (freeNumber w) (recordCount w)
 
 -- a login: misses and slow turns are 0
 unfoldable pub loggedInAs : List ℕ → List ℕ → ℕ → Bool → Station

@@ -9,7 +9,7 @@ ghost use Rattle.rows.specs.Rows.{row, setRow};
 ghost use Rattle.rows.specs.Outcomes.{Gives};
 ghost use Rattle.who.specs.Records.{flag, bytesOf, stationOf};
 ghost use Rattle.who.specs.Good.{goodCounts, plain, goodStation, numbers, goodRecords};
-ghost use Rattle.who.specs.Logins.{loggedIn, freeNumber, lowestFree, afterLogout, freshRecords};
+ghost use Rattle.who.specs.Logins.{loggedIn, freeNumber, lowestNumber, afterLogout, freshRecords};
 ghost use Rattle.who.specs.Turns.{isDue, turnOf};
 ghost use mathlib.Core.Bool.{true};
 
@@ -126,8 +126,8 @@ fn is_free(records: &[u8], n: usize) -> bool
 }
 
 // The lowest free number from 1 on, or the number of records.
-pub fn lowest_free(records: &[u8]) -> usize
-    ensures { λ r. ⌜ Gives (lowestFree (now (records .entry))) r ⌝ }
+pub fn lowest_number(records: &[u8]) -> usize
+    ensures { λ r. ⌜ Gives (lowestNumber (now (records .entry))) r ⌝ }
 {
     let count = records.len() / RECORD;
     let mut n: usize = 0;

@@ -1,4 +1,4 @@
--- `master::poll_row` meets its contract: a walk of its MIR, by hand. The borrow of the row is opened and lent as `&` to `roll_call` for a lifetime that is made for the call. Where the roll is not good, the answer is 11, and both borrows are as they came. Otherwise `slot_of` picks the record; the borrow is opened once more; the record's cell is taken out of the row and read; `poll_one` is called with the copy while the borrow stands open, and is given the lock table for good; its record is stored in the cell; and the borrow is closed at the row with the record in it.
+-- `master::poll_row` meets its contract: a walk of its MIR, by hand. The borrow of the row is opened and lent as `&` to `roll_call` for a lifetime that is made for the call. Where the roll is not good, the answer is 11, and both borrows are as they came. Otherwise `slot_of` picks the record; the borrow is opened once more; the record's cell is taken out of the row and read; `poll_record` is called with the copy while the borrow stands open, and is given the lock table for good; its record is stored in the cell; and the borrow is closed at the row with the record in it.
 -- All that the proof knows of the callees is that they meet their contracts.
 -- Assumes nothing.
 use mathlib.Core.Path.{_≡_, refl, sym, ap, subst, _∙_}
@@ -77,16 +77,16 @@ use Rattle.master.proofs.poll.slot_of as slot
 use Rattle.master.proofs.poll.slot_of.Symbol as slot-def
 use Rattle.master.proofs.poll.slot_of.Symbol.{name as #master·slot-of}
 use Rattle.master.proofs.poll.slot_of.Met as slot-thm
-use Rattle.master.proofs.poll.poll_one as one
-use Rattle.master.proofs.poll.poll_one.Symbol as one-def
-use Rattle.master.proofs.poll.poll_one.Symbol.{name as #master·poll-one}
-use Rattle.master.proofs.poll.poll_one.Met as one-thm
+use Rattle.master.proofs.poll.poll_record as one
+use Rattle.master.proofs.poll.poll_record.Symbol as one-def
+use Rattle.master.proofs.poll.poll_record.Symbol.{name as #master·poll-record}
+use Rattle.master.proofs.poll.poll_record.Met as one-thm
 use Rattle.master.proofs.poll_row.Key.{name as #master·poll-row}
 use Rattle.master.proofs.poll_row as poll
 use Rattle.master.proofs.poll_row.Statement as stated
 use Rattle.master.proofs.poll_row.Code as code
 use Rattle.master.proofs.poll_row.Code.Mir as m′
-use Rattle.master.specs.Inner.{stepRefusal, Steps, readAt}
+use Rattle.master.specs.Inner.{stepRefusal, MakesStep, readAt}
 
 abbrev R : RattleType
 R = T.the-row
@@ -178,7 +178,7 @@ module _ {M : Type 1} (𝓤 : URA M) (H : Heap 𝓤) (A : Atoms 𝓤) (W : Given
   elem = stationIn ys k
 
   abbrev Stepped : Step → List ℕ → Type 0
-  Stepped p t′ = Steps (stepRefusal (rolled .word) m elem y ts) m elem y ts p t′
+  Stepped p t′ = MakesStep (stepRefusal (rolled .word) m elem y ts) m elem y ts p t′
 
   abbrev Arg : Type 0
   Arg = RefT (List Station) × (RefT (List ℕ) × (ℕ × (Bool × Unit {0})))
@@ -236,7 +236,7 @@ module _ {M : Type 1} (𝓤 : URA M) (H : Heap 𝓤) (A : Atoms 𝓤) (W : Given
       nothing ! $ move ! (1 ∷ 0 ∷ []) $ fjoin ! $ owned ! bool (Is bool) (bool-makes 𝓤 H A W) y _ refl $ fjoin ! $ owned ! u32 (Is u32) (uint-makes 𝓤 H A W w32) m _ (refl, fits) $ fjoin ! $
       owned ! u64 (Is u64) (uint-makes 𝓤 H A W w64) (rolled .word) _ (LL.owed O.the-type O′.the-laws rolled _ is-o .1 .0) $ fjoin ! $ owned ! R (Is R) (LL.makes T.the-type T′.the-plain 𝓤 H A) elem _ is $ fjoin ! $ done !
 
-  module _ (C : Calls 𝓤 H) (Λ : Loops 𝓤 H) (fm : FmC 𝓤 H (W .laws) C) (known-call : Triple 𝓤 (C #who·roll-call) (Call 𝓤 H A mem run)) (known-slot : Triple 𝓤 (C #master·slot-of) (Slot 𝓤 H A mem run)) (known-one : Triple 𝓤 (C #master·poll-one) (One 𝓤 H A mem run)) (room : Room R (length ys)) (room₂ : Room u8 (length ts)) (fits : m < 2 ^ 32) where
+  module _ (C : Calls 𝓤 H) (Λ : Loops 𝓤 H) (fm : FmC 𝓤 H (W .laws) C) (known-call : Triple 𝓤 (C #who·roll-call) (Call 𝓤 H A mem run)) (known-slot : Triple 𝓤 (C #master·slot-of) (Slot 𝓤 H A mem run)) (known-one : Triple 𝓤 (C #master·poll-record) (One 𝓤 H A mem run)) (room : Room R (length ys)) (room₂ : Room u8 (length ts)) (fits : m < 2 ^ 32) where
     module _ (l₀ l₁ l₂ l₃ l₄ l₅ l₆ l₇ l₈ l₉ l₁₀ l₁₁ l₁₂ l₁₃ l₁₄ l₁₅ l₁₆ : ℕ) where
       abbrev En : Env 𝓤 H
       En = (P′.mir, l₀) ∷ (rowTy, l₁) ∷ (locksTy, l₂) ∷ (tyInt w32, l₃) ∷ (tyBool, l₄) ∷ (O′.mir, l₅) ∷ (word, l₆) ∷ (U′.mir, l₇) ∷ (seenTy, l₈) ∷ (sliceTy seenTy, l₉) ∷ (tyBool, l₁₀) ∷ (word, l₁₁) ∷ (tyPtr, l₁₂) ∷ (T′.mir, l₁₃) ∷ (lentTy, l₁₄) ∷ (sliceTy lentTy, l₁₅) ∷ (tyPtr, l₁₆) ∷ []
@@ -286,7 +286,7 @@ module _ {M : Type 1} (𝓤 : URA M) (H : Heap 𝓤) (A : Atoms 𝓤) (W : Given
           assigns ! (of-opd ! (load ! (from ! (hop ! (look ! 16 refl) (stop !))) (look-raw ! 0 refl))) (from ! (stop !)) (init ! 14 refl (LL.lawful T.the-type T′.the-laws 𝓤 H A W .typed elem _ is .0)) $
           assigns ! (addr ! (from ! (fld ! refl (hop ! (look-in ! 36 (sub ! 0 refl (whole !))) (stop !))))) (from ! (stop !)) (init ! 12 refl (tt, tt)) $
           assigns ! (agg ! (and-then ! (load ! (from ! (stop !)) (look ! 12 refl)) (and-then ! (load ! (from ! (fld ! refl (stop !))) (look-in ! 36 (sub ! 1 refl (whole !)))) (no-more !)))) (from ! (stop !)) (init ! 10 refl (tt, (tt, (record { fits = room₂ .0 }, tt)))) $
-          -- `poll_one`, which is given the locks: [pre; row[k]; what it owns; the others; the open borrow; obs; auth; _16 (7); …; _15 (9); …; _13 (13); …; _5 (29); …; _4 (31); …; _3 (33); …]
+          -- `poll_record`, which is given the locks: [pre; row[k]; what it owns; the others; the open borrow; obs; auth; _16 (7); …; _15 (9); …; _13 (13); …; _5 (29); …; _4 (31); …; _3 (33); …]
           nothing ! $ move ! (7 ∷ 0 ∷ 8 ∷ []) $ join ! $ use2 W (raw (One 𝓤 H A mem run .pre to-one)) (goes-one fits is is-o (station-counts k elem (good-is ys good .each k (slot-below m)))) $
           calls-at ! fm (One 𝓤 H A mem run) known-one to-one (and-then ! (load ! (from ! (stop !)) (look ! 13 refl)) (and-then ! (load ! (from ! (fld ! refl (stop !))) (look-in ! 29 (sub ! 1 refl (whole !)))) (and-then ! (load ! (from ! (stop !)) (look ! 33 refl)) (and-then ! (load ! (from ! (stop !)) (look ! 31 refl)) (and-then ! (load ! (from ! (stop !)) (look ! 9 refl)) (no-more !)))))) (λ w.
           use1 W (later (some (λ (p : Step). ((‵ (flft κ₂ q₂) ⊛ ‵ ftrue) ⊛ ‵ (U.the-row .own p (w ∷ []))) ⊛ raw (ensured 𝓤 H A one.ended (one.clauses 𝓤 H A mem run) (κ₂, tt) (elem, (rolled .word, (m, (y, (x₂, tt))))) tt p)))) (id⊢ 𝓤 _) $ await ! tt $ pick ! (λ p.
@@ -344,7 +344,7 @@ module _ {M : Type 1} (𝓤 : URA M) (H : Heap 𝓤) (A : Atoms 𝓤) (W : Given
         forget ! 19 refl $ forget ! 21 refl $ judges l₀ l₁ l₂ l₃ l₄ l₅ l₆ l₇ l₈ l₉ l₁₀ l₁₁ l₁₂ l₁₃ l₁₄ l₁₅ l₁₆ (subst (Is O.the-row rolled) (LL.tells O.the-type O′.the-laws rolled _ is₀) is₀))))))))))))))))))))))))
 
 module _ {M : Type 1} (𝓤 : URA M) (H : Heap 𝓤) (A : Atoms 𝓤) (W : Given 𝓤 H A) (mem : Memory → SProp 𝓤) (run : Routine → Fun 𝓤) where
-  poll-walks : (C : Calls 𝓤 H) (Λ : Loops 𝓤 H) → FmC 𝓤 H (W .laws) C → Triple 𝓤 (C #who·roll-call) (Call 𝓤 H A mem run) → Triple 𝓤 (C #master·slot-of) (Slot 𝓤 H A mem run) → Triple 𝓤 (C #master·poll-one) (One 𝓤 H A mem run)
+  poll-walks : (C : Calls 𝓤 H) (Λ : Loops 𝓤 H) → FmC 𝓤 H (W .laws) C → Triple 𝓤 (C #who·roll-call) (Call 𝓤 H A mem run) → Triple 𝓤 (C #master·slot-of) (Slot 𝓤 H A mem run) → Triple 𝓤 (C #master·poll-record) (One 𝓤 H A mem run)
       → Walks 𝓤 H A poll.ended stayed (WpFn 𝓤 H C Λ code.function) (poll.clauses 𝓤 H A mem run)
   poll-walks C Λ fm known-call known-slot known-one = walked 𝓤 H A poll.ended stayed (poll.clauses 𝓤 H A mem run) (WpFn 𝓤 H C Λ code.function)
       (λ κs. (slice-vals, (slice-vals, (uint-vals w32, (bool-vals, tt))))) (λ κs. (mut-slice-tells (named 0) (κs .0) R, (mut-slice-tells (named 1) (κs .1 .0) u8, (uint-tells w32, (bool-tells, tt)))))
@@ -353,7 +353,7 @@ module _ {M : Type 1} (𝓤 : URA M) (H : Heap 𝓤) (A : Atoms 𝓤) (W : Given
       C Λ fm known-call known-slot known-one (are .0 .0 .1) (are .1 .0 .0 .1) (are .1 .1 .0 .1)))
 
 poll-meets : {M : Type 1} (𝓤 : URA M) (H : Heap 𝓤) (A : Atoms 𝓤) → Given 𝓤 H A → (mem : Memory → SProp 𝓤) (run : Routine → Fun 𝓤) (𝓣 : Tables 𝓤 H)
-    → Triple 𝓤 (𝓣 .C #who·roll-call) (Call 𝓤 H A mem run) → Triple 𝓤 (𝓣 .C #master·slot-of) (Slot 𝓤 H A mem run) → Triple 𝓤 (𝓣 .C #master·poll-one) (One 𝓤 H A mem run)
+    → Triple 𝓤 (𝓣 .C #who·roll-call) (Call 𝓤 H A mem run) → Triple 𝓤 (𝓣 .C #master·slot-of) (Slot 𝓤 H A mem run) → Triple 𝓤 (𝓣 .C #master·poll-record) (One 𝓤 H A mem run)
     → Meets 𝓤 H A poll.signature (WpFn 𝓤 H (𝓣 .C) (𝓣 .Λ) code.function) (poll.spec 𝓤 H A mem run)
 poll-meets 𝓤 H A W mem run 𝓣 known-call known-slot known-one =
     walk-meets 𝓤 H A poll.ended stayed W (goes-slice 𝓤 H A W 2 0 tt (plain (λ _. R)), (goes-gave-slice 𝓤 H A W 2 1 tt (plain (λ _. u8)), (goes-dropped 𝓤 H A W 2 (plain (λ _. u32)) yes (λ κs x f. refl), (goes-dropped 𝓤 H A W 2 (plain (λ _. bool)) yes (λ κs x f. refl), tt)))) (poll.clauses 𝓤 H A mem run)
@@ -367,4 +367,4 @@ poll-row-spec 𝓤 H 𝓜 𝓖 𝓡 =
     (poll-meets 𝓤 H (𝓖 .A) (givenOf 𝓤 H 𝓜 𝓖) (𝓜 .mem) (𝓡 .run) (tablesOf 𝓤 H 𝓜 (tables 𝓤 H 𝓜 𝓡 code.env))
     (cited 𝓤 H (Call 𝓤 H (𝓖 .A) (𝓜 .mem) (𝓡 .run)) 𝓜 𝓡 code.env #who·roll-call roll-def.routine code.calls-who·lent·roll-call (roll-thm.met 𝓤 H 𝓜 𝓖 𝓡))
     (cited 𝓤 H (Slot 𝓤 H (𝓖 .A) (𝓜 .mem) (𝓡 .run)) 𝓜 𝓡 code.env #master·slot-of slot-def.routine code.calls-master·poll·slot-of (slot-thm.met 𝓤 H 𝓜 𝓖 𝓡))
-    (cited 𝓤 H (One 𝓤 H (𝓖 .A) (𝓜 .mem) (𝓡 .run)) 𝓜 𝓡 code.env #master·poll-one one-def.routine code.calls-master·poll·poll-one (one-thm.met 𝓤 H 𝓜 𝓖 𝓡)))
+    (cited 𝓤 H (One 𝓤 H (𝓖 .A) (𝓜 .mem) (𝓡 .run)) 𝓜 𝓡 code.env #master·poll-record one-def.routine code.calls-master·poll·poll-record (one-thm.met 𝓤 H 𝓜 𝓖 𝓡)))

@@ -1,7 +1,7 @@
 use Rattle.master.specs.Frames.{nameFound, numberGiven, loginEffect}
 use Rattle.master.specs.Answers.{told}
-use Rattle.who.proofs.WhoLaws.{good-is, lowest-free-is}
-use Rattle.who.specs.Logins.{lowestFree, loggedInAs, afterLogin}
+use Rattle.who.proofs.WhoLaws.{good-is, lowest-number-is}
+use Rattle.who.specs.Logins.{lowestNumber, loggedInAs, afterLogin}
 use Rattle.who.specs.Good.{numbers}
 use Rattle.rows.specs.Numbers.{lowFirst}
 use Rattle.rows.specs.Rows.{part}
@@ -31,7 +31,7 @@ returns : tie.Need-returns
 unfolding told loginEffect numberGiven
 returns c t = let a = c .before .before .before .before .before .before .before .before .before .before .args in
     let full : length (a .q .serial) ≡ 4 = search needs in
-    let none : numbers ≤ lowestFree (now (a .records)) = rw (c .before .lowest-free .ensures .answer) at (c .if1 .taken) in
+    let none : numbers ≤ lowestNumber (now (a .records)) = rw (c .before .lowest-number .ensures .answer) at (c .if1 .taken) in
     let sent : c .before .before .before .four-at .result ≡ lowFirst (a .q .serial) = c .before .before .before .four-at .ensures ∙ ap lowFirst (whole (a .q .serial) full) in
     record { answer = rw (le-ltb _ numbers none, sent); locks = rw (le-ltb _ numbers none); records = rw (le-ltb _ numbers none) }
 
@@ -42,13 +42,13 @@ returns-2 : tie.Need-returns-2
 unfolding told loginEffect numberGiven nameFound afterLogin loggedInAs
 returns-2 c t = let a = c .before .before .before .before .before .before .before .before .before .before .before .before .before .before .before .args in
     let full : length (a .q .serial) ≡ 4 = search needs in
-    let some : lowestFree (now (a .records)) < numbers = rw (c .before .before .before .before .before .before .lowest-free .ensures .answer) at (c .before .before .before .before .before .if1 .left) in
+    let some : lowestNumber (now (a .records)) < numbers = rw (c .before .before .before .before .before .before .lowest-number .ensures .answer) at (c .before .before .before .before .before .if1 .left) in
     let sent : c .before .before .before .before .before .before .before .before .four-at .result ≡ lowFirst (a .q .serial) = c .before .before .before .before .before .before .before .before .four-at .ensures ∙ ap lowFirst (whole (a .q .serial) full) in
-    let first : eqb (lowestFree (now (a .records))) 0 ≡ false = ne-eqb _ _ (λ (z : lowestFree (now (a .records)) ≡ 0). omega (arith, lowest-free-is (now (a .records)) (good-is (now (a .records)) (c .before .before .before .before .before .before .before .before .before .before .before .before .before .before .before .pre .0) .sized) some .0)) in
+    let first : eqb (lowestNumber (now (a .records))) 0 ≡ false = ne-eqb _ _ (λ (z : lowestNumber (now (a .records)) ≡ 0). omega (arith, lowest-number-is (now (a .records)) (good-is (now (a .records)) (c .before .before .before .before .before .before .before .before .before .before .before .before .before .before .before .pre .0) .sized) some .0)) in
     record {
-      answer = rw (lt-ltb _ numbers some, first, sent, c .before .before .before .before .before .before .lowest-free .ensures .answer, c .before .before .before .before .has-user .ensures .answer);
+      answer = rw (lt-ltb _ numbers some, first, sent, c .before .before .before .before .before .before .lowest-number .ensures .answer, c .before .before .before .before .has-user .ensures .answer);
       locks = rw (lt-ltb _ numbers some, first);
-      records = rw (lt-ltb _ numbers some, first) (c .before .before .put-station .ensures ∙ rw (c .before .before .before .before .before .before .lowest-free .ensures .answer, c .before .before .before .before .has-user .ensures .answer));
+      records = rw (lt-ltb _ numbers some, first) (c .before .before .put-station .ensures ∙ rw (c .before .before .before .before .before .before .lowest-number .ensures .answer, c .before .before .before .before .has-user .ensures .answer));
     }
 
 pub log-in-spec : {M : Type 1} → statement M

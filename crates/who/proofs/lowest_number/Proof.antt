@@ -1,11 +1,11 @@
-use Rattle.who.specs.Logins.{recordCount, freeNumber, lowestFree}
+use Rattle.who.specs.Logins.{recordCount, freeNumber, lowestNumber}
 use Rattle.rows.proofs.IndexLaws.{Searching, search-starts, search-on, search-hit, search-ends}
 use borrow.Author.Needs.{needs}
 use mathlib.Core.Path.{sym, _∙_}
 use native.Mathlib.Omega.{arith}
 use Prim.Native.Nat.{_-_}
-use Rattle.who.proofs.lowest_free.Statement.{statement}
-use Rattle.who.proofs.lowest_free.Tie as tie
+use Rattle.who.proofs.lowest_number.Statement.{statement}
+use Rattle.who.proofs.lowest_number.Tie as tie
 
 abbrev Inv-loop : tie.InvT-loop
 Inv-loop records count n₀ n = Searching (freeNumber records) (recordCount records) n
@@ -17,18 +17,18 @@ loop-holds : tie.Need-loop-holds Inv-loop μ-loop
 loop-holds c = search-starts _ _
 
 returns : tie.Need-returns Inv-loop μ-loop
-unfolding lowestFree
+unfolding lowestNumber
 returns c = record { answer = search-hit _ _ (c .before .before .before .loop .inv) (c .before .before .loop-test .taken) (sym (c .before .is-free .ensures) ∙ c .if1 .taken) }
 
 loop-again : tie.Need-loop-again Inv-loop μ-loop
 loop-again c = search-on _ _ (c .before .before .before .loop .inv) (c .before .before .loop-test .taken) (sym (c .before .is-free .ensures) ∙ c .if1 .left)
 
 returns-2 : tie.Need-returns-2 Inv-loop μ-loop
-unfolding lowestFree
+unfolding lowestNumber
 returns-2 c = record { answer = search-ends _ _ (c .before .loop .inv) (c .loop-test .left) }
 
-pub lowest-free-spec : {M : Type 1} → statement M
-lowest-free-spec =
+pub lowest-number-spec : {M : Type 1} → statement M
+lowest-number-spec =
     tie.close
     (tie.spec
     Inv-loop
