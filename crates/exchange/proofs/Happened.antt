@@ -61,7 +61,7 @@ one-unlocked = others 2 _ site (λ e. omega arith) (
 one-cleared : Follows 1 one-has-none 0 one-empty
 unfolding logins one-has-it two-has-it one-has-none one-leaves from answersIn said one-locks-B locksB B one-holds-B one-clears one-empty
 one-cleared = hears buffer site 0x00 _ _ (told 11) (takes one-clears 0x00) (
-    asks-clear _ _ (asks one-holds-B afterClear) (
+    asks-clear _ _ (asks one-holds-B (afterClear one-holds-B)) (
     hears buffer site 0x00 _ _ (told 10) (takes one-locks-B 0x00) (
     asks-lock B refl _ _ (asks one-free (afterLock one-free B)) one-unlocked)))
 

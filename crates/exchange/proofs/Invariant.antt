@@ -1,5 +1,5 @@
 -- What holds of a station that follows the rules at every moment of a run.
-use Prim.Native.Nat.{ℕ, _≤_}
+use Prim.Native.Nat.{ℕ, _*_, _≤_}
 use native.Mathlib.Omega.{arith}
 use mathlib.Core.Path.{_≡_, refl, sym, ap, subst, _∙_}
 use mathlib.Core.Bool.{Bool, true}
@@ -19,7 +19,8 @@ use Rattle.master.specs.Refusals.{ANYBODY}
 use Rattle.master.proofs.Deeds.{loginNumber, deed}
 use Rattle.master.proofs.Keeps.{fresh-tables, logout-out, frame-keeps, frame-others-in, frame-others-have}
 use Rattle.master.proofs.PollKeeps.{turn-deed, poll-keeps, poll-others-have}
-use Rattle.station.specs.State.{limit, waitOf, codeIn}
+use Rattle.station.specs.State.{waitOf, codeIn}
+use Rattle.station.specs.Good.{limit}
 use Rattle.station.specs.Asks.{freshState}
 use Rattle.station.specs.Replies.{replyRefusal, Replies}
 use Rattle.station.proofs.ListedLaws.{listed-none}
@@ -59,7 +60,7 @@ module _ (k : ℕ) where
   empty-agrees h f s n = record {
     inside = n .is-in;
     state-good = keeps.fresh-good;
-    agrees = same-agrees (λ y. rw (keeps.fresh-list, n .same-locks) (listed-none y ∙ sym (out-holds _ _ (run-good h) k (n .was-out) y))) (rw keeps.fresh-wait);
+    agrees = same-agrees (λ y. rw (keeps.fresh-list, n .same-locks) (listed-none (14 * limit) y ∙ sym (out-holds _ _ (run-good h) k (n .was-out) y))) (rw keeps.fresh-wait);
   }
 
   others-on : (h : Run) (st : List ℕ) (n : ℕ) (f s : List ℕ) → (n ≡ k → ⊥) → At h st → At (h then frame n f s) st

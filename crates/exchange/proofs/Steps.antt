@@ -4,7 +4,7 @@ use native.Mathlib.Omega.{arith}
 use mathlib.Core.Path.{_≡_, sym, subst, _∙_}
 use mathlib.Core.Bool.{true, false, cond, not, _&&_, and-true, and-false}
 use mathlib.Core.List.{List}
-use lib.Dec.{eqb, leb}
+use lib.Dec.{eqb}
 use lib.ListN.{length}
 use borrow.Author.Tests.{eqb-true, ne-eqb, not-true, lt-leb}
 use Rattle.rows.proofs.BoolLaws.{by-test, by-eq, and-left, and-right}
@@ -15,8 +15,8 @@ use Rattle.frames.specs.Table.{LOCK, UNLOCK}
 use Rattle.who.specs.Logins.{loggedIn}
 use Rattle.locks.specs.Table.{rowCount}
 use Rattle.locks.specs.Holding.{has}
-use Rattle.station.specs.State.{limit, listOf, waitOf, isListed, listed, codeIn, askedIn}
-use Rattle.station.specs.Good.{goodState}
+use Rattle.station.specs.State.{listOf, waitOf, placeCount, isListed, listed, isFull, codeIn, askedIn}
+use Rattle.station.specs.Good.{limit, goodState}
 use Rattle.station.specs.Asks.{waits, askRefusal, struck, awaited, afterLock, afterUnlock, afterClear, Asks}
 use Rattle.station.specs.Replies.{grants, carriesLength, adds, replyRefusal, afterReply}
 use Rattle.station.proofs.ListedLaws.{listed-legal, listed-struck, listed-none}
@@ -55,7 +55,7 @@ module _ (k : ℕ) (t w st : List ℕ) (i : Inv k t w st) where
 
   pub lock-asked : (x : LockString) → length (x .bytes) ≡ 13 → ((y : LockString) → isListed (listOf st) y ≡ has t k y) → Inv k t w (afterLock st x)
   unfolding locking codeIn awaited
-  lock-asked x long e = steps _ _ _ (keeps.lock-good st (i .state-good) x long) (keeps.lock-list st (i .state-good) x) (keeps.lock-wait st (i .state-good) x)
+  lock-asked x long e = steps _ _ _ (keeps.lock-good st x long (i .state-good)) (keeps.lock-list st x long) (keeps.lock-wait st x long)
       (asked-agrees (listOf st) e (λ y. sym (and-true (isListed (listOf st) y))))
 
   -- of what is listed, an unlock strikes what it waits for
@@ -68,13 +68,13 @@ module _ (k : ℕ) (t w st : List ℕ) (i : Inv k t w st) where
       (λ n. rw n))
 
   pub unlock-asked : (x : LockString) → length (x .bytes) ≡ 13 → ((y : LockString) → isListed (listOf st) y ≡ has t k y) → Inv k t w (afterUnlock st x)
-  unlock-asked x long e = steps _ _ _ (keeps.unlock-good st (i .state-good) x long) (keeps.unlock-list st (i .state-good) x) (keeps.unlock-wait st (i .state-good) x)
+  unlock-asked x long e = steps _ _ _ (keeps.unlock-good st x long (i .state-good)) (keeps.unlock-list st x long) (keeps.unlock-wait st x long)
       (asked-agrees (listOf st) e (λ y. struck-asked x y long))
 
-  pub clear-asked : ((y : LockString) → isListed (listOf st) y ≡ has t k y) → Inv k t w afterClear
+  pub clear-asked : ((y : LockString) → isListed (listOf st) y ≡ has t k y) → Inv k t w (afterClear st)
   unfolding locking pending codeIn
-  clear-asked e = steps _ _ _ keeps.clear-good keeps.clear-list keeps.clear-wait
-      (asked-agrees (listOf st) e (λ y. listed-none y ∙ sym (and-false (isListed (listOf st) y))))
+  clear-asked e = steps _ _ _ (keeps.clear-good st (i .state-good)) (keeps.clear-list st) (keeps.clear-wait st)
+      (asked-agrees (listOf st) e (λ y. listed-none (length (listOf st)) y ∙ sym (and-false (isListed (listOf st) y))))
 
   -- a reply that the master gave is never refused
   module _ (t′ : List ℕ) (b : ℕ) (sized : rowCount t′ ≤ limit) (s : Settles k t t′ (waitOf st) b) where
@@ -88,14 +88,14 @@ module _ (k : ℕ) (t w st : List ℕ) (i : Inv k t w st) where
         asked = unfold pending locking x in rw (eqb-true (codeIn (waitOf st)) LOCK c) (same-string-refl (askedIn (waitOf st)))
 
     -- the list and the new string are held, and so there is a place for it
-    room : adds (listOf st) (waitOf st) b ≡ true → leb limit (listed (listOf st)) ≡ false
-    unfolding adds x locking
+    room : adds (listOf st) (waitOf st) b ≡ true → isFull (listOf st) ≡ false
+    unfolding adds isFull x locking
     room a =
         let missing = not (isListed (listOf st) x) in
         let c = and-left (eqb (codeIn (waitOf st)) LOCK) (grants b && missing) a in
         let m = and-right (eqb (codeIn (waitOf st)) LOCK) (grants b && missing) a in
         let fits-in = list-fits listing t′ k x (lost-agrees (i .agrees) s .in-master) (x-held c (and-left (grants b) missing m)) (not-true _ (and-right (grants b) missing m)) in
-        lt-leb limit (listed (listOf st)) (omega (arith, fits-in, sized))
+        lt-leb (placeCount (listOf st)) (listed (listOf st)) (omega (arith, fits-in, sized, listing .sized))
 
     pub reply-taken : replyRefusal st b ≡ 0
     unfolding replyRefusal
@@ -106,7 +106,7 @@ module _ (k : ℕ) (t w st : List ℕ) (i : Inv k t w st) where
             (λ g. rw g (by-test (carriesLength (codeIn (waitOf st))) (λ c. rw (c, s .lawful g c)) (λ n. rw n)))
             (λ n. rw n)
 
-        fits-in : (adds (listOf st) (waitOf st) b && leb limit (listed (listOf st))) ≡ false
+        fits-in : (adds (listOf st) (waitOf st) b && isFull (listOf st)) ≡ false
         fits-in = by-test (adds (listOf st) (waitOf st) b) (λ a. rw (a, room a)) (λ n. rw n)
 
     pub reply-inv : Inv k t′ w (afterReply st b)

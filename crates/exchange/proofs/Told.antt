@@ -23,7 +23,7 @@ use Rattle.master.specs.Tables.{goodTables}
 use Rattle.master.specs.Refusals.{unknown, misplaced, srcDiffers, placeRefusal, frameTests, frameRefusal, refusal}
 use Rattle.master.specs.Effects.{unless}
 use Rattle.master.specs.Frames.{placeTold, numberGiven, nameFound, loginEffect, effectOf, requestEffect, frameEffect}
-use Rattle.station.specs.State.{listOf, waitOf, isListed, placeOf, listed, added, struckAt, codeIn, askedIn}
+use Rattle.station.specs.State.{listOf, waitOf, isListed, placeOf, listed, isFull, added, struckAt, codeIn, askedIn}
 use Rattle.station.specs.Good.{goodPlace, goodAt as goodPlaceAt, inFront, goodList, goodWait, goodState}
 use Rattle.station.specs.Asks.{waits, askRefusal, struck, awaited, afterLock, afterUnlock, afterClear, freshState, frameAwaited, sendRefusal, sentOf, bufferAfter}
 use Rattle.station.specs.Replies.{fits, grants, carriesLength, adds, replyRefusal, afterReply}
@@ -33,11 +33,11 @@ use Rattle.exchange.specs.Promise.{lists}
 use Rattle.exchange.specs.Story.{A, B, site, login, logout, buffer, asked, replied, locksA, locksB, unlocksA, one-locks, one-holds, one-unlocks, one-free, one-locks-B, one-holds-B, one-clears, one-empty, two-locks, two-denied, two-again, two-holds, from, unlock, logins, one-has-it, two-has-it, one-has-none, one-leaves, answersIn, said}
 
 pub story-told : answersIn one-leaves ≡ said
-unfolding all any first build sameAt same zeroAt zeros part put copies eachRow lowFirst lowBytes stringAt legal key sameString normal frameTable lengthIn frameLength carriesAddress plain refusalOf addressIn namedIn loginIn stringRequest requestIn users userOffset partitions partitionOffset nameAt passwordAt rowAt spareAt goodHeader sameName namedAt nameAlone tracks sectors ranged numbered partitionNumbered numberAlone meet overlap partitionsOverlap sound apart goodPartition goodSite userIs hasUser indexOfNumber flag bytesOf stationOf flagged goodCounts plainStation goodStation goodFrom goodRow isRow stationsOf goodRecords loggedIn freeNumber lowestNumber loggedInAs afterLogin afterLogout freshRecords owner isFree stringIn rowOf holds rowIn rowFree rowString rowHolds rowAlone freed ownerAt heldAt lowestFree isHeld isOwn lockStatus lockTable unlocks unlockStatus unlockTable clearedTable soundRow soundAt soundRows goodLocks freshLocks goodTables unknown misplaced srcDiffers placeRefusal frameTests frameRefusal refusal placeTold numberGiven nameFound loginEffect effectOf requestEffect frameEffect unless listOf waitOf isListed placeOf listed added struckAt codeIn askedIn goodPlace goodPlaceAt inFront goodList goodWait goodState waits askRefusal struck awaited afterLock afterUnlock afterClear freshState frameAwaited sendRefusal sentOf bufferAfter fits grants carriesLength adds replyRefusal afterReply effect tables answerIn sent A B site login logout buffer asked replied locksA locksB unlocksA one-locks one-holds one-unlocks one-free one-locks-B one-holds-B one-clears one-empty two-locks two-denied two-again two-holds from unlock logins one-has-it two-has-it one-has-none one-leaves answersIn said
+unfolding all any first build sameAt same zeroAt zeros part put copies eachRow lowFirst lowBytes stringAt legal key sameString normal frameTable lengthIn frameLength carriesAddress plain refusalOf addressIn namedIn loginIn stringRequest requestIn users userOffset partitions partitionOffset nameAt passwordAt rowAt spareAt goodHeader sameName namedAt nameAlone tracks sectors ranged numbered partitionNumbered numberAlone meet overlap partitionsOverlap sound apart goodPartition goodSite userIs hasUser indexOfNumber flag bytesOf stationOf flagged goodCounts plainStation goodStation goodFrom goodRow isRow stationsOf goodRecords loggedIn freeNumber lowestNumber loggedInAs afterLogin afterLogout freshRecords owner isFree stringIn rowOf holds rowIn rowFree rowString rowHolds rowAlone freed ownerAt heldAt lowestFree isHeld isOwn lockStatus lockTable unlocks unlockStatus unlockTable clearedTable soundRow soundAt soundRows goodLocks freshLocks goodTables unknown misplaced srcDiffers placeRefusal frameTests frameRefusal refusal placeTold numberGiven nameFound loginEffect effectOf requestEffect frameEffect unless listOf waitOf isListed placeOf listed isFull added struckAt codeIn askedIn goodPlace goodPlaceAt inFront goodList goodWait goodState waits askRefusal struck awaited afterLock afterUnlock afterClear freshState frameAwaited sendRefusal sentOf bufferAfter fits grants carriesLength adds replyRefusal afterReply effect tables answerIn sent A B site login logout buffer asked replied locksA locksB unlocksA one-locks one-holds one-unlocks one-free one-locks-B one-holds-B one-clears one-empty two-locks two-denied two-again two-holds from unlock logins one-has-it two-has-it one-has-none one-leaves answersIn said
 story-told = refl
 
 -- who lists "A" on the way: 1 after the reply 81, 2 not after 01, 1 no more after its unlock, and then 2; 1 lists "B", and after its
 -- clear no more
 pub story-lists : (lists one-holds A ∷ lists two-denied A ∷ lists one-free A ∷ lists two-holds A ∷ lists one-holds-B B ∷ lists one-empty B ∷ []) ≡ (true ∷ false ∷ false ∷ true ∷ true ∷ false ∷ [])
-unfolding all any first sameAt same zeroAt zeros part put stringAt legal key sameString normal isFree stringIn holds rowIn rowFree rowString rowHolds rowAlone listOf waitOf isListed placeOf listed added struckAt codeIn askedIn goodPlace goodPlaceAt inFront goodList goodWait goodState waits askRefusal struck awaited afterLock afterUnlock afterClear freshState fits grants carriesLength adds replyRefusal afterReply A B asked replied locksA locksB unlocksA one-locks one-holds one-unlocks one-free one-locks-B one-holds-B one-clears one-empty two-locks two-denied two-again two-holds lists
+unfolding all any first sameAt same zeroAt zeros part put stringAt legal key sameString normal isFree stringIn holds rowIn rowFree rowString rowHolds rowAlone listOf waitOf isListed placeOf listed isFull added struckAt codeIn askedIn goodPlace goodPlaceAt inFront goodList goodWait goodState waits askRefusal struck awaited afterLock afterUnlock afterClear freshState fits grants carriesLength adds replyRefusal afterReply A B asked replied locksA locksB unlocksA one-locks one-holds one-unlocks one-free one-locks-B one-holds-B one-clears one-empty two-locks two-denied two-again two-holds lists
 story-lists = refl

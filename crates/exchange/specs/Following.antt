@@ -52,7 +52,7 @@ pub data Follows (k : ℕ) : Run → ℕ → List ℕ → Type 0 where
       → Follows k h at st → Follows k h at st′
   asks-unlock : {h : Run} {at : ℕ} {st : List ℕ} (x : LockString) → length (x .bytes) ≡ 13 → (r : ℕ) (st′ : List ℕ) → Asks st (afterUnlock st x) r st′
       → Follows k h at st → Follows k h at st′
-  asks-clear : {h : Run} {at : ℕ} {st : List ℕ} (r : ℕ) (st′ : List ℕ) → Asks st afterClear r st′
+  asks-clear : {h : Run} {at : ℕ} {st : List ℕ} (r : ℕ) (st′ : List ℕ) → Asks st (afterClear st) r st′
       → Follows k h at st → Follows k h at st′
   -- it sends the frame awaited, at as many polls as it likes, and the reply is lost
   sends : {h : Run} {at : ℕ} {st : List ℕ} (b s : List ℕ)

@@ -73,7 +73,7 @@ unfoldable pub one-holds-B : List ℕ
 one-holds-B = replied one-locks-B 0x00
 
 unfoldable pub one-clears : List ℕ
-one-clears = asked one-holds-B afterClear
+one-clears = asked one-holds-B (afterClear one-holds-B)
 
 unfoldable pub one-empty : List ℕ
 one-empty = replied one-clears 0x00

@@ -4,15 +4,15 @@ use native.Mathlib.Omega.{arith}
 use mathlib.Core.Path.{_≡_, refl, sym, ap, _∙_}
 use mathlib.Core.Bool.{Bool, true, false, cond, not, _&&_}
 use mathlib.Core.List.{List}
-use lib.Dec.{eqb, leb, ltb}
+use lib.Dec.{eqb, ltb}
 use lib.ListN.{length}
 use borrow.Author.Tests.{ne-eqb, ltb-true, ltb-false}
 use Rattle.rows.proofs.BoolLaws.{by-test, by-eq}
 use Rattle.rows.specs.Outcomes.{Leaves}
 use Rattle.terms.specs.Strings.{legal}
 use Rattle.frames.specs.Table.{LOCK, UNLOCK, CLEAR}
-use Rattle.station.specs.State.{limit, stateLength, listOf, waitOf, listed, codeIn, askedIn}
-use Rattle.station.specs.Good.{goodState}
+use Rattle.station.specs.State.{listOf, waitOf, isFull, codeIn, askedIn}
+use Rattle.station.specs.Good.{stateLength, goodState}
 use Rattle.station.specs.Asks.{freshState, waits, askRefusal, frameAwaited, sendRefusal, sentOf, bufferAfter}
 use Rattle.station.specs.Replies.{fits, grants, carriesLength, adds, replyRefusal, Replies}
 use Rattle.station.proofs.Cases.{sent-short}
@@ -81,7 +81,7 @@ reply-small st n =
     either (not (goodState st)) 11 _ (omega arith)
     (either (not (fits (codeIn (waitOf st)) n)) 15 _ (omega arith)
     (either (grants n && (carriesLength (codeIn (waitOf st)) && not (legal (askedIn (waitOf st))))) 15 _ (omega arith)
-    (either (adds (listOf st) (waitOf st) n && leb limit (listed (listOf st))) 15 0 (omega arith) (omega arith))))
+    (either (adds (listOf st) (waitOf st) n && isFull (listOf st)) 15 0 (omega arith) (omega arith))))
 
 -- a step: its word tells the refusal, and a refused one is its number alone and leaves the state as it was
 module _ {k : ℕ} (small : k < 256) {after st : List ℕ} {r : ℕ} {st′ : List ℕ} (done : Steps k after st r st′) where

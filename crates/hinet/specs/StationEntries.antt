@@ -9,7 +9,7 @@ use Rattle.rows.specs.Outcomes.{Leaves}
 use Rattle.terms.specs.declared.LockString.{LockString}
 use Rattle.master.specs.Answers.{Told, refuses, answers, no-bytes, frame-of}
 use Rattle.station.specs.declared.Sent.{Sent}
-use Rattle.station.specs.State.{stateLength}
+use Rattle.station.specs.Good.{stateLength}
 use Rattle.station.specs.Asks.{freshState, askRefusal, afterLock, afterUnlock, afterClear, sentOf, bufferAfter}
 use Rattle.station.specs.Replies.{replyRefusal, afterReply}
 use Rattle.hinet.specs.Packing.{word}
@@ -36,7 +36,7 @@ abbrev pub Unlocks : List ℕ → LockString → ℕ → List ℕ → Type 0
 Unlocks st x = Steps (askRefusal st) (afterUnlock st x) st
 
 abbrev pub Clears : List ℕ → ℕ → List ℕ → Type 0
-Clears st = Steps (askRefusal st) afterClear st
+Clears st = Steps (askRefusal st) (afterClear st) st
 
 -- the reply is any number, and none is cut
 abbrev pub Takes : List ℕ → ℕ → ℕ → List ℕ → Type 0

@@ -4,7 +4,7 @@ use native.Mathlib.Omega.{arith}
 use mathlib.Core.Path.{_≡_, refl, sym, ap, _∙_}
 use mathlib.Core.Bool.{Bool, true, false, cond, not, _&&_}
 use mathlib.Core.List.{List, [], _++_}
-use lib.Dec.{eqb, leb, ltb}
+use lib.Dec.{eqb, ltb}
 use lib.ListN.{length}
 use borrow.Author.Tests.{ne-eqb, le-leb, lt-leb, leb-false, le-ltb, not-true}
 use Rattle.rows.specs.Outcomes.{Leaves}
@@ -16,7 +16,7 @@ use Rattle.frames.specs.declared.Written.{Written}
 use Rattle.frames.specs.Writing.{frameOf, writtenOf}
 use Rattle.frames.specs.Writing
 use Rattle.station.specs.declared.Sent.{Sent}
-use Rattle.station.specs.State.{limit, listOf, waitOf, listed, added, codeIn, askedIn, nothing}
+use Rattle.station.specs.State.{listOf, waitOf, placeCount, listed, isFull, added, codeIn, askedIn, nothing}
 use Rattle.station.specs.Good.{goodState}
 use Rattle.station.specs.Asks.{waits, askRefusal, Asks, frameAwaited, sendRefusal, sentOf, bufferAfter}
 use Rattle.station.proofs.StateLaws.{state-is, wait-long}
@@ -60,35 +60,35 @@ module _ (st : List ℕ) (b : ℕ) where
         unfolding replyRefusal afterReply
         reply-adds-none a = record { answer = rw (g, f, h, a); left = rw (g, f, h, a) }
 
-        pub reply-full : adds (listOf st) (waitOf st) b ≡ true → limit ≤ listed (listOf st) → Replies st b 15 st
-        unfolding replyRefusal
-        reply-full a n = let full = le-leb limit (listed (listOf st)) n in record { answer = rw (g, f, h, a, full); left = rw (g, f, h, a, full) }
+        pub reply-full : adds (listOf st) (waitOf st) b ≡ true → placeCount (listOf st) ≤ listed (listOf st) → Replies st b 15 st
+        unfolding replyRefusal isFull
+        reply-full a n = let full = le-leb (placeCount (listOf st)) (listed (listOf st)) n in record { answer = rw (g, f, h, a, full); left = rw (g, f, h, a, full) }
 
-        pub reply-adds : adds (listOf st) (waitOf st) b ≡ true → listed (listOf st) < limit → Replies st b 0 (added (listOf st) (askedIn (waitOf st)) ++ nothing)
-        unfolding replyRefusal afterReply
-        reply-adds a n = let room = lt-leb limit (listed (listOf st)) n in record { answer = rw (g, f, h, a, room); left = rw (g, f, h, a, room) }
+        pub reply-adds : adds (listOf st) (waitOf st) b ≡ true → listed (listOf st) < placeCount (listOf st) → Replies st b 0 (added (listOf st) (askedIn (waitOf st)) ++ nothing)
+        unfolding replyRefusal isFull afterReply
+        reply-adds a n = let room = lt-leb (placeCount (listOf st)) (listed (listOf st)) n in record { answer = rw (g, f, h, a, room); left = rw (g, f, h, a, room) }
 
 -- a reply that is not refused: it is listed for the request, the length of a string that it grants is legal, and a new one has room
 pub record Taken (st : List ℕ) (b : ℕ) : Type 0 where
   pub good : goodState st ≡ true
   pub fitting : fits (codeIn (waitOf st)) b ≡ true
   pub lawful : grants b ≡ true → carriesLength (codeIn (waitOf st)) ≡ true → legal (askedIn (waitOf st)) ≡ true
-  pub room : adds (listOf st) (waitOf st) b ≡ true → listed (listOf st) < limit
+  pub room : adds (listOf st) (waitOf st) b ≡ true → listed (listOf st) < placeCount (listOf st)
 
 module _ (st : List ℕ) (b : ℕ) where
   pub taken : replyRefusal st b ≡ 0 → Taken st b
-  unfolding replyRefusal
+  unfolding replyRefusal isFull
   taken z =
       let d = grants b in
       let c = carriesLength (codeIn (waitOf st)) in
       let k = legal (askedIn (waitOf st)) in
       let a = adds (listOf st) (waitOf st) b in
-      let full = leb limit (listed (listOf st)) in
+      let full = isFull (listOf st) in
       let t = none-holds (goodState st) (fits (codeIn (waitOf st)) b) (d && (c && not k)) (a && full) z in record {
         good = t .0;
         fitting = t .1;
         lawful = λ y w. by-test k (λ l. l) (λ l. both (rw (y, w, l)) (t .2));
-        room = λ y. leb-false limit (listed (listOf st)) (rw y at (t .3));
+        room = λ y. leb-false (placeCount (listOf st)) (listed (listOf st)) (rw y at (t .3));
       }
     where
       none-holds : (g f h a : Bool) → _≡_ {A = ℕ} (cond (not g) 11 (cond (not f) 15 (cond h 15 (cond a 15 0)))) 0 → (g ≡ true) × (f ≡ true) × (h ≡ false) × (a ≡ false)
@@ -99,7 +99,7 @@ module _ (st : List ℕ) (b : ℕ) where
       none-holds false f h a e = absurd (omega arith)
 
   pub is-taken : Taken st b → replyRefusal st b ≡ 0
-  unfolding replyRefusal
+  unfolding replyRefusal isFull
   is-taken t =
       let c = carriesLength (codeIn (waitOf st)) in
       let k = legal (askedIn (waitOf st)) in
@@ -107,7 +107,7 @@ module _ (st : List ℕ) (b : ℕ) where
       (λ y.
       let y₁ = and-right (grants b) (c && not k) y in
       both (t .lawful (and-left (grants b) (c && not k) y) (and-left c (not k) y₁)) (not-true k (and-right c (not k) y₁)))
-      (λ n. rw n (by-test (adds (listOf st) (waitOf st) b) (λ a. rw (a, lt-leb limit (listed (listOf st)) (t .room a))) (λ a. rw a))))
+      (λ n. rw n (by-test (adds (listOf st) (waitOf st) b) (λ a. rw (a, lt-leb (placeCount (listOf st)) (listed (listOf st)) (t .room a))) (λ a. rw a))))
 
 -- sending: the state is bad, nothing is awaited, or the frame of a request is written
 module _ (st b : List ℕ) where
@@ -149,5 +149,5 @@ unfolding sentOf sendRefusal
 sent-short st n = by-test (goodState st)
     (λ y. by-test (ltb n (length (frameAwaited (waitOf st))))
     (λ l. rw (y, l) (omega arith))
-    (λ m. rw (y, m) (omega (arith, frame-short (waitOf st) (wait-long st (state-is st y .sized))))))
+    (λ m. rw (y, m) (omega (arith, frame-short (waitOf st) (wait-long st (omega (arith, state-is st y .sized)))))))
     (λ m. rw m (omega arith))

@@ -1,5 +1,5 @@
 -- A good state stays good, and what each step does to its list and its wait.
-use Prim.Native.Nat.{ℕ, _<_}
+use Prim.Native.Nat.{ℕ, _*_, _<_}
 use native.Mathlib.Omega.{arith}
 use mathlib.Core.Path.{_≡_, refl, sym, _∙_}
 use mathlib.Core.Bool.{true, false, cond, not, _&&_, _||_, or-false}
@@ -15,8 +15,8 @@ use Rattle.terms.specs.Strings.{legal, sameString}
 use Rattle.terms.specs.Tables.{isFree, holds, rowIn, rowFree, rowHolds}
 use Rattle.terms.proofs.StringLaws.{same-string-normal}
 use Rattle.frames.specs.Table.{LOCK, UNLOCK}
-use Rattle.station.specs.State.{limit, listLength, listOf, waitOf, places, unused, listedAt, isListed, placeOf, listed, added, codeIn, askedIn, nothing}
-use Rattle.station.specs.Good.{goodPlace, goodState}
+use Rattle.station.specs.State.{listOf, waitOf, places, unused, listedAt, isListed, placeOf, listed, added, codeIn, askedIn, nothing}
+use Rattle.station.specs.Good.{goodPlace, limit, goodState}
 use Rattle.station.specs.Asks.{struck, awaited, awaitedClear, afterLock, afterUnlock, afterClear, freshState}
 use Rattle.station.specs.Replies.{grants, carriesLength, adds, replyRefusal, afterReply}
 use Rattle.station.proofs.Cases.{Taken, taken}
@@ -109,76 +109,68 @@ module _ {n : ℕ} {l : List ℕ} (g : Good n l) where
 
 -- a good state has a good list, and a good list before a wait is a good state
 pub list-good : (st : List ℕ) → goodState st ≡ true → Good limit (listOf st)
-list-good st h = let g = state-is st h in good-is limit (listOf st) (list-long st (g .sized)) (g .list)
+list-good st h = let g = state-is st h in good-is limit (listOf st) (list-long st ∙ omega (arith, g .sized)) (g .list)
 
 module _ (l v : List ℕ) (g : Good limit l) (w : WaitCase v) where
   pub made-good : goodState (l ++ v) ≡ true
   made-good = is-state (l ++ v) (record {
     sized = length-append l v ∙ omega (arith, g .sized, case-long w);
-    list = rw (list-of l v (g .sized)) (is-good limit l g);
-    wait = rw (wait-of l v (g .sized)) (case-good w);
+    list = rw (list-of l v (case-long w)) (is-good limit l g);
+    wait = rw (wait-of l v (case-long w)) (case-good w);
   })
 
--- fresh, and after a clear: the list is empty
-module _ where
-  empty : Good limit (replicate listLength 0)
-  empty = zeros-list limit
+-- fresh: the list is empty
+pub fresh-good : goodState freshState ≡ true
+unfolding freshState
+fresh-good = made-good (replicate (14 * limit) 0) nothing (zeros-list limit) idle
 
-  pub fresh-good : goodState freshState ≡ true
-  unfolding freshState
-  fresh-good = made-good (replicate listLength 0) nothing empty idle
+pub fresh-list : listOf freshState ≡ replicate (14 * limit) 0
+unfolding freshState
+fresh-list = list-of (replicate (14 * limit) 0) nothing refl
 
-  pub fresh-list : listOf freshState ≡ replicate listLength 0
-  unfolding freshState
-  fresh-list = list-of (replicate listLength 0) nothing (empty .sized)
+pub fresh-wait : waitOf freshState ≡ nothing
+unfolding freshState
+fresh-wait = wait-of (replicate (14 * limit) 0) nothing refl
 
-  pub fresh-wait : waitOf freshState ≡ nothing
-  unfolding freshState
-  fresh-wait = wait-of (replicate listLength 0) nothing (empty .sized)
-
-  pub clear-good : goodState afterClear ≡ true
+-- after a clear it is empty too
+module _ (st : List ℕ) where
+  pub clear-good : goodState st ≡ true → goodState (afterClear st) ≡ true
   unfolding afterClear
-  clear-good = made-good (replicate listLength 0) awaitedClear empty (waiting clearing)
+  clear-good h = made-good (replicate (length (listOf st)) 0) awaitedClear (rw (list-good st h .sized) (zeros-list limit)) (waiting clearing)
 
-  pub clear-list : listOf afterClear ≡ replicate listLength 0
+  pub clear-list : listOf (afterClear st) ≡ replicate (length (listOf st)) 0
   unfolding afterClear
-  clear-list = list-of (replicate listLength 0) awaitedClear (empty .sized)
+  clear-list = list-of (replicate (length (listOf st)) 0) awaitedClear refl
 
-  pub clear-wait : waitOf afterClear ≡ awaitedClear
+  pub clear-wait : waitOf (afterClear st) ≡ awaitedClear
   unfolding afterClear
-  clear-wait = wait-of (replicate listLength 0) awaitedClear (empty .sized)
+  clear-wait = wait-of (replicate (length (listOf st)) 0) awaitedClear refl
 
--- a lock and an unlock that are asked of a good state
-module _ (st : List ℕ) (h : goodState st ≡ true) (x : LockString) where
-  kept : Good limit (listOf st)
-  kept = list-good st h
-
-  less : Good limit (struck (listOf st) x)
-  less = struck-good kept x
-
-  pub lock-good : length (x .bytes) ≡ 13 → goodState (afterLock st x) ≡ true
+-- a lock and an unlock that are asked
+module _ (st : List ℕ) (x : LockString) (full : length (x .bytes) ≡ 13) where
+  pub lock-good : goodState st ≡ true → goodState (afterLock st x) ≡ true
   unfolding afterLock
-  lock-good full = made-good (listOf st) (awaited LOCK x) kept (waiting (locking x full))
+  lock-good h = made-good (listOf st) (awaited LOCK x) (list-good st h) (waiting (locking x full))
 
   pub lock-list : listOf (afterLock st x) ≡ listOf st
   unfolding afterLock
-  lock-list = list-of (listOf st) (awaited LOCK x) (kept .sized)
+  lock-list = list-of (listOf st) (awaited LOCK x) (case-long (waiting (locking x full)))
 
   pub lock-wait : waitOf (afterLock st x) ≡ awaited LOCK x
   unfolding afterLock
-  lock-wait = wait-of (listOf st) (awaited LOCK x) (kept .sized)
+  lock-wait = wait-of (listOf st) (awaited LOCK x) (case-long (waiting (locking x full)))
 
-  pub unlock-good : length (x .bytes) ≡ 13 → goodState (afterUnlock st x) ≡ true
+  pub unlock-good : goodState st ≡ true → goodState (afterUnlock st x) ≡ true
   unfolding afterUnlock
-  unlock-good full = made-good (struck (listOf st) x) (awaited UNLOCK x) less (waiting (unlocking x full))
+  unlock-good h = made-good (struck (listOf st) x) (awaited UNLOCK x) (struck-good (list-good st h) x) (waiting (unlocking x full))
 
   pub unlock-list : listOf (afterUnlock st x) ≡ struck (listOf st) x
   unfolding afterUnlock
-  unlock-list = list-of (struck (listOf st) x) (awaited UNLOCK x) (less .sized)
+  unlock-list = list-of (struck (listOf st) x) (awaited UNLOCK x) (case-long (waiting (unlocking x full)))
 
   pub unlock-wait : waitOf (afterUnlock st x) ≡ awaited UNLOCK x
   unfolding afterUnlock
-  unlock-wait = wait-of (struck (listOf st) x) (awaited UNLOCK x) (less .sized)
+  unlock-wait = wait-of (struck (listOf st) x) (awaited UNLOCK x) (case-long (waiting (unlocking x full)))
 
 -- a reply that is not refused
 module _ (st : List ℕ) (b : ℕ) (z : replyRefusal st b ≡ 0) where
@@ -193,7 +185,7 @@ module _ (st : List ℕ) (b : ℕ) (z : replyRefusal st b ≡ 0) where
 
   full : length (x .bytes) ≡ 13
   unfolding x
-  full = asked-full (waitOf st) (wait-long st (state-is st (t .good) .sized))
+  full = asked-full (waitOf st) (wait-long st (omega (arith, state-is st (t .good) .sized)))
 
   -- where the reply adds the string, it is one of a lock, granted, legal and new
   record New : Type 0 where
@@ -216,7 +208,7 @@ module _ (st : List ℕ) (b : ℕ) (z : replyRefusal st b ≡ 0) where
   after-good : Good limit after
   unfolding after x
   after-good = by-test (adds (listOf st) (waitOf st) b)
-      (λ a. rw a (added-good before x full (new a .lawful) (new a .unlisted) (t .room a)))
+      (λ a. rw a (added-good before x full (new a .lawful) (new a .unlisted) (within before (t .room a))))
       (λ m. rw m before)
 
   pub reply-good : goodState (afterReply st b) ≡ true
@@ -225,11 +217,11 @@ module _ (st : List ℕ) (b : ℕ) (z : replyRefusal st b ≡ 0) where
 
   pub reply-list : listOf (afterReply st b) ≡ cond (adds (listOf st) (waitOf st) b) (added (listOf st) (askedIn (waitOf st))) (listOf st)
   unfolding afterReply after
-  reply-list = list-of after nothing (after-good .sized)
+  reply-list = list-of after nothing refl
 
   pub reply-wait : waitOf (afterReply st b) ≡ nothing
   unfolding afterReply after
-  reply-wait = wait-of after nothing (after-good .sized)
+  reply-wait = wait-of after nothing refl
 
   -- 00 or 81 to a lock lists the string; any other reply lists nothing, and none takes anything away
   pub listed-replied : (y : LockString) → isListed (listOf (afterReply st b)) y ≡ (isListed (listOf st) y || (eqb (codeIn (waitOf st)) LOCK && (grants b && sameString (askedIn (waitOf st)) y)))
@@ -241,7 +233,7 @@ module _ (st : List ℕ) (b : ℕ) (z : replyRefusal st b ≡ 0) where
       rw reply-list (by-test (adds l (waitOf st) b)
       (λ a.
       let a₁ = and-right lock (grants b && missing) a in
-      rw (a, and-left lock (grants b && missing) a, and-left (grants b) missing a₁) (listed-added before x (new a .lawful) full (t .room a) y))
+      rw (a, and-left lock (grants b && missing) a, and-left (grants b) missing a₁) (listed-added before x (new a .lawful) full (within before (t .room a)) y))
       (λ m. rw m (by-test (lock && (grants b && sameString x y))
       (λ s.
       let s₁ = and-right lock (grants b && sameString x y) s in

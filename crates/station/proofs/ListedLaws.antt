@@ -1,5 +1,5 @@
 -- Which strings are listed: by sameness, in which places, and after adding and striking one.
-use Prim.Native.Nat.{ℕ, _-_, _*_, _≤_, _<_}
+use Prim.Native.Nat.{ℕ, _+_, _-_, _*_, _≤_, _<_}
 use native.Mathlib.Omega.{arith}
 use mathlib.Core.Path.{_≡_, refl, sym, ap, _∙_}
 use mathlib.Core.Bool.{true, false, not, _&&_, _||_}
@@ -17,11 +17,11 @@ use Rattle.terms.specs.Strings.{legal, sameString}
 use Rattle.terms.specs.Tables.{isFree, holds, rowIn, rowFree, rowHolds}
 use Rattle.terms.proofs.TableLaws.{holds-is, is-holds, holds-same, free-holds}
 use Rattle.terms.proofs.StringLaws.{legal-same, same-string-refl, same-string-sym, same-string-trans, same-string-normal}
-use Rattle.station.specs.State.{listLength, limit, placeCount, places, placeString, unused, listedAt, isListed, placeOf, listed, added}
+use Rattle.station.specs.State.{placeCount, places, placeString, unused, listedAt, isListed, placeOf, listed, added}
 use Rattle.station.specs.Asks.{struck}
 use Rattle.station.proofs.PlaceLaws.{zeros-good, used-legal, placed, placed-string, placed-used}
 use Rattle.station.proofs.GoodLaws.{Good}
-use Rattle.station.proofs.ListLaws.{count-is, row-past, Adds, added-adds, stood, stood-apart, stood-inside, by-place-now, Strikes, struck-strikes}
+use Rattle.station.proofs.ListLaws.{row-past, Adds, added-adds, stood, stood-apart, stood-inside, by-place-now, Strikes, struck-strikes}
 
 module _ (l : List ℕ) (x : LockString) where
   -- the place of a string that is listed
@@ -151,30 +151,24 @@ module _ {n : ℕ} {l : List ℕ} (g : Good n l) where
       (λ m. rw m)))
 
 -- zeros alone: every place is unused, and nothing is listed
-module _ (n : ℕ) where
-  zeros-long : length {A = ℕ} (replicate (14 * n) 0) ≡ 14 * n
-  zeros-long = length-replicate {A = ℕ} (14 * n) 0
-
-  zeros-row : (i : ℕ) → i < n → row 14 (replicate (14 * n) 0) i ≡ replicate 14 0
+module _ (k : ℕ) where
+  zeros-row : (i : ℕ) → 14 * i + 14 ≤ k → row 14 (replicate k 0) i ≡ replicate 14 0
   unfolding part
-  zeros-row i b = rw (drop-zeros (14 * n) (14 * i) (omega arith)) (take-zeros (14 * n - 14 * i) 14 (omega arith))
+  zeros-row i b = rw (drop-zeros k (14 * i) (omega arith)) (take-zeros (k - 14 * i) 14 (omega arith))
 
-  zeros-unused : (i : ℕ) → i < n → unused (replicate (14 * n) 0) i ≡ true
+  zeros-unused : (i : ℕ) → 14 * i + 14 ≤ k → unused (replicate k 0) i ≡ true
   unfolding rowIn rowFree isFree
   zeros-unused i b = rw (zeros-row i b)
 
-  pub zeros-list : Good n (replicate (14 * n) 0)
-  unfolding rowIn rowFree
-  zeros-list = record {
-    sized = zeros-long;
-    each = λ i b. rw (zeros-row i b) zeros-good;
-    one-place = λ x i j b m p q. both p (free-holds places x (row 14 (replicate (14 * n) 0) i) (zeros-unused i b));
-    used-first = λ i j u h b. zeros-unused j b;
-  }
-
-  pub zeros-listed : (y : LockString) → isListed (replicate (14 * n) 0) y ≡ false
+  pub listed-none : (y : LockString) → isListed (replicate k 0) y ≡ false
   unfolding isListed rowIn rowFree rowHolds
-  zeros-listed y = rw (count-is n (replicate (14 * n) 0) zeros-long) (none-from _ n (λ i b. free-holds places y (row 14 (replicate (14 * n) 0) i) (zeros-unused i b)))
+  listed-none y = none-from _ (placeCount (replicate k 0)) (λ i b. free-holds places y (row 14 (replicate k 0) i) (zeros-unused i (omega (arith, length-replicate {A = ℕ} k 0))))
 
-pub listed-none : (y : LockString) → isListed (replicate listLength 0) y ≡ false
-listed-none y = zeros-listed limit y
+pub zeros-list : (n : ℕ) → Good n (replicate (14 * n) 0)
+unfolding rowIn rowFree
+zeros-list n = record {
+  sized = length-replicate {A = ℕ} (14 * n) 0;
+  each = λ i b. rw (zeros-row (14 * n) i (omega arith)) zeros-good;
+  one-place = λ x i j b m p q. both p (free-holds places x (row 14 (replicate (14 * n) 0) i) (zeros-unused (14 * n) i (omega arith)));
+  used-first = λ i j u h b. zeros-unused (14 * n) j (omega arith);
+}

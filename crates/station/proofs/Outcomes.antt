@@ -10,7 +10,7 @@ use borrow.Author.Tests.{ne-eqb}
 use Rattle.rows.specs.Outcomes.{Leaves}
 use Rattle.rows.proofs.BoolLaws.{by-test, by-eq}
 use Rattle.station.specs.declared.Sent.{Sent}
-use Rattle.station.specs.State.{stateLength}
+use Rattle.station.specs.Good.{stateLength}
 use Rattle.station.specs.Asks.{askRefusal, Asks, freshState, sendRefusal, sentOf, bufferAfter}
 use Rattle.station.specs.Replies.{replyRefusal, Replies}
 

@@ -1,44 +1,46 @@
 -- A station's state: its two parts, its lengths, and its rules as facts.
-use Prim.Native.Nat.{ℕ}
+use Prim.Native.Nat.{ℕ, _-_, _≤_}
 use native.Mathlib.Nat.{add-zero}
 use native.Mathlib.Omega.{arith}
 use mathlib.Core.Path.{_≡_, ap, _∙_}
 use mathlib.Core.Bool.{true, _&&_}
 use mathlib.Core.List.{List, _++_}
 use lib.Dec.{eqb}
-use lib.ListN.{length, drop, getD, length-append, length-drop}
+use lib.ListN.{length, getD, length-append, length-drop}
 use lib.Seq.{length-take-le, getD-drop, take-at, drop-at}
 use borrow.Author.Tests.{eqb-true, eq-eqb}
 use Rattle.rows.proofs.BoolLaws.{and-left, and-right}
-use Rattle.station.specs.State.{limit, listLength, stateLength, listOf, waitOf, codeIn}
-use Rattle.station.specs.Good.{goodList, goodWait, goodState}
+use Rattle.station.specs.State.{listOf, waitOf, codeIn}
+use Rattle.station.specs.Good.{limit, stateLength, goodList, goodWait, goodState}
 
--- the two parts of a state of the right size, and a state made of two parts
-module _ (st : List ℕ) (sized : length st ≡ stateLength) where
-  pub list-long : length (listOf st) ≡ listLength
-  unfolding listOf
-  list-long = length-take-le listLength st (omega arith)
+-- the two parts of a state, and a state made of two parts
+pub list-long : (st : List ℕ) → length (listOf st) ≡ length st - 15
+unfolding listOf
+list-long st = length-take-le (length st - 15) st (omega arith)
 
-  pub wait-long : length (waitOf st) ≡ 15
-  unfolding waitOf
-  wait-long = length-drop listLength st ∙ omega arith
+pub wait-long : (st : List ℕ) → 15 ≤ length st → length (waitOf st) ≡ 15
+unfolding waitOf
+wait-long st h = length-drop (length st - 15) st ∙ omega arith
 
-pub code-at : (st : List ℕ) → codeIn (waitOf st) ≡ getD st listLength 0
+pub code-at : (st : List ℕ) → codeIn (waitOf st) ≡ getD st (length st - 15) 0
 unfolding codeIn waitOf
-code-at st = getD-drop listLength st 0 0 ∙ ap (λ (k : ℕ). getD st k 0) (add-zero _)
+code-at st = getD-drop (length st - 15) st 0 0 ∙ ap (λ (k : ℕ). getD st k 0) (add-zero _)
 
-module _ (l v : List ℕ) (sized : length l ≡ listLength) where
+module _ (l v : List ℕ) (long : length v ≡ 15) where
+  seam : length l ≡ length (l ++ v) - 15
+  seam = omega (arith, length-append l v)
+
   pub list-of : listOf (l ++ v) ≡ l
   unfolding listOf
-  list-of = take-at l v listLength sized
+  list-of = take-at l v (length (l ++ v) - 15) seam
 
   pub wait-of : waitOf (l ++ v) ≡ v
   unfolding waitOf
-  wait-of = drop-at l v listLength sized
+  wait-of = drop-at l v (length (l ++ v) - 15) seam
 
--- a part that was lent comes back before the wait
-pub lent-long : (st l : List ℕ) → length st ≡ stateLength → length l ≡ length (listOf st) → length (l ++ drop listLength st) ≡ stateLength
-lent-long st l sized same = length-append l (drop listLength st) ∙ omega (arith, length-drop listLength st, list-long st sized)
+-- a list that was lent comes back before the wait
+pub lent-long : (st l : List ℕ) → 15 ≤ length st → length l ≡ length (listOf st) → length (l ++ waitOf st) ≡ length st
+lent-long st l h same = length-append l (waitOf st) ∙ omega (arith, wait-long st h, list-long st)
 
 -- a good state
 pub record GoodState (st : List ℕ) : Type 0 where
@@ -58,3 +60,7 @@ state-is st h =
 pub is-state : (st : List ℕ) → GoodState st → goodState st ≡ true
 unfolding goodState
 is-state st g = rw (eq-eqb _ _ (g .sized), g .list, g .wait)
+
+-- it holds a frame awaited
+pub state-fits : (st : List ℕ) → goodState st ≡ true → 15 ≤ length st
+state-fits st h = omega (arith, state-is st h .sized)

@@ -86,7 +86,7 @@ asked-back code x full = rw (part-end (code ∷ x .len ∷ []) (x .bytes) 2 13 r
 -- what a good state awaits, and what it awaits where it waits
 module _ (st : List ℕ) (good : goodState st ≡ true) where
   pub state-wait : WaitCase (waitOf st)
-  state-wait = let g = state-is st good in wait-case (waitOf st) (wait-long st (g .sized)) (g .wait)
+  state-wait = let g = state-is st good in wait-case (waitOf st) (wait-long st (omega (arith, g .sized))) (g .wait)
 
   pub state-awaits : waits st ≡ true → Awaits (waitOf st) (commandFor (codeIn (waitOf st))) (askedIn (waitOf st))
   unfolding waits commandFor codeIn awaited stringAt

@@ -1,5 +1,5 @@
 -- What a station asks, and the frame it then sends until a reply comes.
-use Prim.Native.Nat.{ℕ}
+use Prim.Native.Nat.{ℕ, _*_}
 use mathlib.Core.Path.{_≡_}
 use mathlib.Core.Bool.{Bool, cond, not, _&&_}
 use mathlib.Core.List.{List, [], _∷_, _++_}
@@ -12,8 +12,8 @@ use Rattle.frames.specs.declared.Command.{Command}
 use Rattle.frames.specs.declared.Command.the-variants.{Lock, Unlock, Clear}
 use Rattle.frames.specs.Table.{LOCK, UNLOCK, CLEAR}
 use Rattle.station.specs.declared.Sent.{Sent}
-use Rattle.station.specs.State.{listLength, listOf, waitOf, isListed, placeOf, struckAt, codeIn, nothing}
-use Rattle.station.specs.Good.{goodState}
+use Rattle.station.specs.State.{listOf, waitOf, isListed, placeOf, struckAt, codeIn, nothing}
+use Rattle.station.specs.Good.{limit, goodState}
 
 -- a reply is awaited
 unfoldable pub waits : List ℕ → Bool
@@ -41,8 +41,8 @@ afterLock st x = listOf st ++ awaited LOCK x
 unfoldable pub afterUnlock : List ℕ → LockString → List ℕ
 afterUnlock st x = struck (listOf st) x ++ awaited UNLOCK x
 
-unfoldable pub afterClear : List ℕ
-afterClear = replicate listLength 0 ++ awaitedClear
+unfoldable pub afterClear : List ℕ → List ℕ
+afterClear st = replicate (length (listOf st)) 0 ++ awaitedClear
 
 -- what an ask gives and leaves: 0 and the state after it, or the refusal and the state as it was
 pub record Asks (st after : List ℕ) (r : ℕ) (st′ : List ℕ) : Type 0 where
@@ -51,7 +51,7 @@ pub record Asks (st after : List ℕ) (r : ℕ) (st′ : List ℕ) : Type 0 wher
 
 -- fresh, and at each login: an empty list and no reply awaited
 unfoldable pub freshState : List ℕ
-freshState = replicate listLength 0 ++ nothing
+freshState = replicate (14 * limit) 0 ++ nothing
 
 -- the command with this code
 unfoldable pub commandFor : ℕ → Command

@@ -1,5 +1,5 @@
 -- The rules of a station's state. Any breach is refusal 11.
-use Prim.Native.Nat.{ℕ, _+_, _-_}
+use Prim.Native.Nat.{ℕ, _+_, _-_, _*_}
 use mathlib.Core.Bool.{Bool, cond, not, _&&_, _||_}
 use mathlib.Core.List.{List}
 use lib.Dec.{eqb}
@@ -9,7 +9,7 @@ use Rattle.rows.specs.Rows.{part, row}
 use Rattle.terms.specs.Strings.{legal}
 use Rattle.terms.specs.Tables.{isFree, rowAlone}
 use Rattle.frames.specs.Table.{LOCK, UNLOCK, CLEAR}
-use Rattle.station.specs.State.{limit, stateLength, listOf, waitOf, places, placeString, unused, codeIn}
+use Rattle.station.specs.State.{listOf, waitOf, places, placeString, unused, codeIn}
 
 -- zeros in unused places; in used ones lengths 1 to 13 and zeros after the string
 unfoldable pub goodPlace : List ℕ → Bool
@@ -36,6 +36,13 @@ unfoldable pub goodWait : List ℕ → Bool
 goodWait v =
     (eqb (codeIn v) LOCK || eqb (codeIn v) UNLOCK)
     || ((eqb (codeIn v) 0 || eqb (codeIn v) CLEAR) && zeros (part v 1 14))
+
+-- how many locks a station may hold
+abbrev pub limit : ℕ
+limit = 64
+
+abbrev pub stateLength : ℕ
+stateLength = 14 * limit + 15
 
 unfoldable pub goodState : List ℕ → Bool
 goodState st = eqb (length st) stateLength && (goodList limit (listOf st) && goodWait (waitOf st))

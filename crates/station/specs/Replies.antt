@@ -3,10 +3,10 @@ use Prim.Native.Nat.{ℕ}
 use mathlib.Core.Path.{_≡_}
 use mathlib.Core.Bool.{Bool, cond, not, _&&_, _||_}
 use mathlib.Core.List.{List, _++_}
-use lib.Dec.{eqb, leb}
+use lib.Dec.{eqb}
 use Rattle.terms.specs.Strings.{legal}
 use Rattle.frames.specs.Table.{LOCK, UNLOCK, CLEAR}
-use Rattle.station.specs.State.{limit, listOf, waitOf, isListed, listed, added, codeIn, askedIn, nothing}
+use Rattle.station.specs.State.{listOf, waitOf, isListed, isFull, added, codeIn, askedIn, nothing}
 use Rattle.station.specs.Good.{goodState}
 
 -- the replies listed for a request: lock 00, 81, 01, 02 and 82, unlock 00 and 02, clear 00
@@ -28,13 +28,13 @@ carriesLength code = eqb code LOCK || eqb code UNLOCK
 unfoldable pub adds : List ℕ → List ℕ → ℕ → Bool
 adds l v b = eqb (codeIn v) LOCK && (grants b && not (isListed l (askedIn v)))
 
--- 11 the state; 15 no reply is awaited, the byte is not listed for the request, 00 or 81 for an illegal length, or a 65th list entry
+-- 11 the state; 15 no reply is awaited, the byte is not listed for the request, 00 or 81 for an illegal length, or a 65th list entry, one more than there are places
 unfoldable pub replyRefusal : List ℕ → ℕ → ℕ
 replyRefusal st b =
     cond (not (goodState st)) 11
     (cond (not (fits (codeIn (waitOf st)) b)) 15
     (cond (grants b && (carriesLength (codeIn (waitOf st)) && not (legal (askedIn (waitOf st))))) 15
-    (cond (adds (listOf st) (waitOf st) b && leb limit (listed (listOf st))) 15
+    (cond (adds (listOf st) (waitOf st) b && isFull (listOf st)) 15
     0)))
 
 -- each reply ends the wait

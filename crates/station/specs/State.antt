@@ -1,7 +1,8 @@
 -- A station's state: the places of its list, 14 bytes each (length, 13 bytes; length 0 is unused), then the 15 bytes of the frame awaited.
-use Prim.Native.Nat.{ℕ, _+_, _*_, _/_}
+use Prim.Native.Nat.{ℕ, _+_, _-_, _*_, _/_}
 use mathlib.Core.Bool.{Bool}
 use mathlib.Core.List.{List, _++_}
+use lib.Dec.{leb}
 use lib.ListN.{length, getD, take, drop, replicate}
 use Rattle.rows.specs.Words.{any, first}
 use Rattle.rows.specs.Rows.{put}
@@ -10,23 +11,14 @@ use Rattle.terms.specs.declared.LockString.{LockString}
 use Rattle.terms.specs.Strings.{stringAt, stringBytes, normal}
 use Rattle.terms.specs.Tables.{stringIn, rowFree, rowHolds}
 
--- at most 64 locks
-abbrev pub limit : ℕ
-limit = 64
-
-abbrev pub listLength : ℕ
-listLength = 14 * limit
-
-abbrev pub stateLength : ℕ
-stateLength = listLength + 15
-
+-- the list: all but the last 15 bytes; and the frame awaited
 unfoldable pub listOf : List ℕ → List ℕ
-listOf st = take listLength st
+listOf st = take (length st - 15) st
 
 unfoldable pub waitOf : List ℕ → List ℕ
-waitOf st = drop listLength st
+waitOf st = drop (length st - 15) st
 
--- the list: how many places it has, and how they hold their strings
+-- how many places a list has, and how they hold their strings
 abbrev pub placeCount : List ℕ → ℕ
 placeCount l = length l / 14
 
@@ -49,9 +41,12 @@ isListed l x = any (listedAt l x) (placeCount l)
 unfoldable pub placeOf : List ℕ → LockString → ℕ
 placeOf l x = first (listedAt l x) (placeCount l)
 
--- how many strings are listed
+-- how many strings are listed, and whether no place is left for another
 unfoldable pub listed : List ℕ → ℕ
 listed l = first (unused l) (placeCount l)
+
+unfoldable pub isFull : List ℕ → Bool
+isFull l = leb (placeCount l) (listed l)
 
 -- a new string goes to the end, with zeros after it
 unfoldable pub added : List ℕ → LockString → List ℕ

@@ -1,5 +1,5 @@
-// The station's end of the lock exchange: its list of locks and its wait, in 911 lent bytes. It asks one thing at a time,
-// sends that frame until a reply comes, and takes the reply. Each entry answers with the refusal number, 0 for none.
+// The station's end of the lock exchange: its list of locks and its wait, in lent bytes. It asks one thing at a time, sends
+// that frame until a reply comes, and takes the reply. Each entry answers with the refusal number, 0 for none.
 mod list;
 mod rules;
 
@@ -12,21 +12,22 @@ ghost use mathlib.Core.Path.{_≡_};
 ghost use mathlib.Core.Bool.{cond, not, _&&_};
 ghost use mathlib.Core.List.{_++_};
 ghost use lib.Dec.{eqb};
+ghost use Prim.Native.Nat.{_≤_};
 ghost use lib.ListN.{length};
 ghost use Rattle.rows.specs.Outcomes.{Gives, Leaves};
 ghost use Rattle.terms.specs.Strings.{legal};
 ghost use Rattle.frames.specs.Table.{LOCK};
-ghost use Rattle.station.specs.State.{stateLength, listOf, waitOf, isListed, askedIn, nothing};
-ghost use Rattle.station.specs.Good.{goodState};
+ghost use Rattle.station.specs.State.{listOf, waitOf, isListed, askedIn, nothing};
+ghost use Rattle.station.specs.Good.{stateLength, goodState};
 ghost use Rattle.station.specs.Asks.{askRefusal, awaited, afterLock, afterUnlock, afterClear, Asks, freshState, commandFor, sentOf, bufferAfter};
 ghost use Rattle.station.specs.Replies.{fits, grants, carriesLength, Replies};
 
-// How many locks a station may hold, and the bytes of its list and of its state.
+// How many locks a station may hold, the bytes of its state then, and those of the frame awaited, which come last.
 pub const LIMIT: usize = 64;
 
-pub const LIST: usize = 896;
-
 pub const BYTES: usize = 911;
+
+const WAIT: usize = 15;
 
 const NOTHING: [u8; 15] = [0, 0, 0, 0, 0, 0, 0, 0, 0, 0, 0, 0, 0, 0, 0];
 
@@ -37,7 +38,8 @@ pub fn is_good(state: &[u8]) -> bool
     if state.len() != BYTES {
         return false;
     }
-    let list = &state[..LIST];
+    let end = state.len() - WAIT;
+    let list = &state[..end];
     if !rules::places_good(list, LIMIT) {
         return false;
     }
@@ -47,7 +49,7 @@ pub fn is_good(state: &[u8]) -> bool
     if !table::rows_alone(list, list::shape(), LIMIT) {
         return false;
     }
-    rules::wait_good(&state[LIST..])
+    rules::wait_good(&state[end..])
 }
 
 // Empties the list and awaits nothing: 11 for another size.
@@ -69,17 +71,19 @@ fn ask_refusal(state: &[u8]) -> u8
     if !is_good(state) {
         return 11;
     }
-    if state[LIST] == 0 { 0 } else { 14 }
+    let at = state.len() - WAIT;
+    if state[at] == 0 { 0 } else { 14 }
 }
 
 // Awaits the frame with this code and string.
 fn await_string(state: &mut [u8], code: u8, s: LockString)
-    requires { ⌜ length (now state) ≡ stateLength ⌝ }
+    requires { ⌜ 15 ≤ length (now state) ⌝ }
     ensures { λ _. ⌜ now (state .exit) ≡ listOf (now (state .entry)) ++ awaited code s ⌝ }
 {
     let head = [code];
-    rows::put(state, LIST, &head);
-    terms::put_string(state, LIST + 1, s);
+    let at = state.len() - WAIT;
+    rows::put(state, at, &head);
+    terms::put_string(state, at + 1, s);
 }
 
 // Asks for a lock.
@@ -102,14 +106,15 @@ pub fn ask_unlock(state: &mut [u8], s: LockString) -> u8
     if refusal != 0 {
         return refusal;
     }
-    list::strike(&mut state[..LIST], s);
+    let end = state.len() - WAIT;
+    list::strike(&mut state[..end], s);
     await_string(state, code::UNLOCK, s);
     0
 }
 
 // Asks to clear all locks: the list is emptied.
 pub fn ask_clear(state: &mut [u8]) -> u8
-    ensures { λ r. ⌜ Asks (now (state .entry)) afterClear r (now (state .exit)) ⌝ }
+    ensures { λ r. ⌜ Asks (now (state .entry)) (afterClear (now (state .entry))) r (now (state .exit)) ⌝ }
 {
     let refusal = ask_refusal(state);
     if refusal != 0 {
@@ -117,17 +122,18 @@ pub fn ask_clear(state: &mut [u8]) -> u8
     }
     let zero = [0u8; 1];
     let clear = [code::CLEAR];
-    rows::fill(state, BYTES, &zero);
-    rows::put(state, LIST, &clear);
+    let size = state.len();
+    rows::fill(state, size, &zero);
+    rows::put(state, size - WAIT, &clear);
     0
 }
 
 // The string asked for, as it was asked.
 fn asked(state: &[u8]) -> LockString
-    requires { ⌜ length (now state) ≡ stateLength ⌝ }
+    requires { ⌜ 15 ≤ length (now state) ⌝ }
     ensures { λ s. ⌜ s ≡ askedIn (waitOf (now (state .entry))) ⌝ }
 {
-    terms::string_at(state, LIST + 1)
+    terms::string_at(state, state.len() - WAIT + 1)
 }
 
 fn command_of(code: u8) -> Command
@@ -158,7 +164,8 @@ pub fn send(state: &[u8], buffer: &mut [u8]) -> Sent
             length: 0,
         };
     }
-    let code = state[LIST];
+    let at = state.len() - WAIT;
+    let code = state[at];
     if code == 0 {
         return Sent {
             refusal: 0,
@@ -244,10 +251,11 @@ fn is_new(list: &[u8], code: u8, s: LockString, reply: u8) -> bool
 
 // Ends the wait.
 fn end_wait(state: &mut [u8])
-    requires { ⌜ length (now state) ≡ stateLength ⌝ }
+    requires { ⌜ 15 ≤ length (now state) ⌝ }
     ensures { λ _. ⌜ now (state .exit) ≡ listOf (now (state .entry)) ++ nothing ⌝ }
 {
-    rows::put(state, LIST, &NOTHING);
+    let at = state.len() - WAIT;
+    rows::put(state, at, &NOTHING);
 }
 
 // Takes a reply to the frame awaited: 11, 15.
@@ -257,7 +265,8 @@ pub fn take_reply(state: &mut [u8], reply: u8) -> u8
     if !is_good(state) {
         return 11;
     }
-    let code = state[LIST];
+    let end = state.len() - WAIT;
+    let code = state[end];
     if !is_listed_reply(code, reply) {
         return 15;
     }
@@ -265,15 +274,16 @@ pub fn take_reply(state: &mut [u8], reply: u8) -> u8
     if is_bad_grant(code, s, reply) {
         return 15;
     }
-    if !is_new(&state[..LIST], code, s, reply) {
+    if !is_new(&state[..end], code, s, reply) {
         end_wait(state);
         return 0;
     }
-    let at = list::count(&state[..LIST], LIMIT);
-    if LIMIT <= at {
+    let n = end / list::PLACE;
+    let at = list::count(&state[..end], n);
+    if n <= at {
         return 15;
     }
-    list::put(&mut state[..LIST], at, s);
+    list::put(&mut state[..end], at, s);
     end_wait(state);
     0
 }

@@ -1,15 +1,16 @@
-use Prim.Native.Nat.{ℕ}
+use Prim.Native.Nat.{ℕ, _+_, _-_}
 use native.Mathlib.Omega.{arith}
-use mathlib.Core.Path.{refl, sym, ap, _∙_}
+use mathlib.Core.Path.{_≡_, refl, sym, ap, _∙_}
 use mathlib.Core.List.{List, [], _∷_}
-use lib.ListN.{replicate, replicate-append-replicate}
+use lib.ListN.{length, replicate, length-replicate, replicate-append-replicate}
 use denote.Ref.{now}
 use Rattle.station.proofs.Cases.{askable, ask-refused, ask-done}
-use Rattle.station.proofs.StateLaws.{state-is}
+use Rattle.station.proofs.StateLaws.{list-long, state-fits}
 use Rattle.rows.specs.Rows.{put}
 use Rattle.rows.proofs.RowLaws.{filled, put-behind}
 use Rattle.frames.specs.Table.{CLEAR}
 use Rattle.station.specs.Asks.{afterClear}
+use Rattle.station.specs.State.{listOf}
 use borrow.Author.Needs.{needs}
 use Rattle.station.proofs.ask_clear.Statement.{statement}
 use Rattle.station.proofs.ask_clear.Tie as tie
@@ -17,21 +18,26 @@ use Rattle.station.proofs.ask_clear.Tie as tie
 returns : tie.Need-returns
 returns c = ask-refused _ _ (c .before .ask-refusal .ensures) (c .if1 .taken)
 
-fill-requires : tie.Need-fill-requires
-fill-requires c κs = let st = now (c .before .before .before .before .before .before .args .state) in
-    omega (arith, state-is st (askable st (sym (c .before .before .before .ask-refusal .ensures) ∙ c .before .before .if1 .left) .0) .sized)
+sub-put : tie.Need-sub-put
+sub-put c =
+    let asked = c .before .before .before .before .before .before in
+    let st = now (asked .before .before .before .before .args .state) in
+    state-fits st (askable st (sym (asked .before .ask-refusal .ensures) ∙ asked .if1 .left) .0)
 
 put-requires : tie.Need-put-requires
-put-requires c κs = let st = now (c .before .before .before .before .before .before .before .before .before .before .before .args .state) in
-    omega (arith, c .before .before .before .before .fill .kept .0, state-is st (askable st (sym (c .before .before .before .before .before .before .before .before .ask-refusal .ensures) ∙ c .before .before .before .before .before .before .before .if1 .left) .0) .sized)
+put-requires c κs = omega (arith, c .before .before .before .before .fill .kept .0, sub-put (c .before))
 
 returns-2 : tie.Need-returns-2
 unfolding afterClear
-returns-2 c = let st = now (c .before .before .before .before .before .before .before .before .before .before .before .before .before .before .args .state) in
-    let free = sym (c .before .before .before .before .before .before .before .before .before .before .before .ask-refusal .ensures) ∙ c .before .before .before .before .before .before .before .before .before .before .if1 .left in
-    let g = ask-done st afterClear free in
-    let empty = c .before .before .before .before .before .before .before .fill .ensures ∙ filled st 911 0 (state-is st (askable st free .0) .sized) ∙ sym (replicate-append-replicate 896 15 0) in
-    record { answer = g .answer; left = c .before .before .put .ensures ∙ ap (λ (l : List ℕ). put l 896 (CLEAR ∷ [])) empty ∙ put-behind (replicate 896 0) (replicate 15 0) (CLEAR ∷ []) 896 refl ∙ g .left }
+returns-2 c =
+    let lent = c .before .before .before .before in
+    let asked = lent .before .before .before .before .before .before in
+    let st = now (asked .before .before .before .before .args .state) in
+    let n = length (listOf st) in
+    let g = ask-done st (afterClear st) (sym (asked .before .ask-refusal .ensures) ∙ asked .if1 .left) in
+    let whole : n + 15 ≡ length st = omega (arith, list-long st, sub-put lent) in
+    let empty = lent .before .before .before .fill .ensures ∙ filled st (length st) 0 refl ∙ ap (λ (k : ℕ). replicate k 0) (sym whole) ∙ sym (replicate-append-replicate n 15 0) in
+    record { answer = g .answer; left = c .before .before .put .ensures ∙ ap (λ (l : List ℕ). put l (length st - 15) (CLEAR ∷ [])) empty ∙ put-behind (replicate n 0) (replicate 15 0) (CLEAR ∷ []) (length st - 15) (length-replicate {A = ℕ} n 0 ∙ list-long st) ∙ g .left }
 
 pub ask-clear-spec : {M : Type 1} → statement M
 ask-clear-spec =
@@ -41,7 +47,8 @@ ask-clear-spec =
     (λ c. search needs)
     returns
     (λ c. search needs)
-    fill-requires
+    (λ c κs. search needs)
+    sub-put
     (λ c. search needs)
     put-requires
     (λ c. search needs)

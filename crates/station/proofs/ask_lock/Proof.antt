@@ -1,7 +1,7 @@
 use mathlib.Core.Path.{sym, _∙_}
 use denote.Ref.{now}
 use Rattle.station.proofs.Cases.{askable, ask-refused, ask-done}
-use Rattle.station.proofs.StateLaws.{state-is}
+use Rattle.station.proofs.StateLaws.{state-fits}
 use Rattle.station.specs.Asks.{afterLock}
 use borrow.Author.Needs.{needs}
 use Rattle.station.proofs.ask_lock.Statement.{statement}
@@ -12,7 +12,7 @@ returns c = ask-refused _ _ (c .before .ask-refusal .ensures) (c .if1 .taken)
 
 await-string-requires : tie.Need-await-string-requires
 await-string-requires c κs = let st = now (c .before .before .before .before .before .args .state) in
-    state-is st (askable st (sym (c .before .before .ask-refusal .ensures) ∙ c .before .if1 .left) .0) .sized
+    state-fits st (askable st (sym (c .before .before .ask-refusal .ensures) ∙ c .before .if1 .left) .0)
 
 returns-2 : tie.Need-returns-2
 unfolding afterLock

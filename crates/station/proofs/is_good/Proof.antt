@@ -25,11 +25,11 @@ returns c = record { answer = rw (ne-eqb _ _ (c .if1 .taken)) }
 
 slice-aggregate-list : tie.Need-slice-aggregate-list
 unfolding listOf
-slice-aggregate-list c = sym (list-long (now (c .before .before .before .args .state)) (c .before .if1 .left))
+slice-aggregate-list c = sym (list-long (now (c .before .before .before .args .state)))
 
 places-good-requires : tie.Need-places-good-requires
 unfolding listOf
-places-good-requires c κs = omega (arith, list-long (now (c .before .before .before .args .state)) (c .before .if1 .left))
+places-good-requires c κs = omega (arith, list-long (now (c .before .before .before .args .state)), c .before .if1 .left)
 
 returns-2 : tie.Need-returns-2
 unfolding goodState goodList listOf
@@ -39,7 +39,7 @@ used-first-requires : tie.Need-used-first-requires
 unfolding listOf
 used-first-requires c κs =
     let size = c .before .before .before in
-    omega (arith, list-long (now (size .before .before .args .state)) (size .if1 .left))
+    omega (arith, list-long (now (size .before .before .args .state)), size .if1 .left)
 
 returns-3 : tie.Need-returns-3
 unfolding goodState goodList listOf
@@ -52,8 +52,9 @@ unfolding listOf goodAt rowIn rowFree rowString
 rows-alone-requires c κs =
     let places = c .before .before .before in
     let size = places .before .before .before in
-    let l = take 896 (now (size .before .before .args .state)) in
-    let sized : 14 * 64 ≤ length l = omega (arith, list-long (now (size .before .before .args .state)) (size .if1 .left)) in
+    let st = now (size .before .before .args .state) in
+    let l = take (length st - 15) st in
+    let sized : 14 * 64 ≤ length l = omega (arith, list-long st, size .if1 .left) in
     rw (c .shape .ensures)
     (sized, (lit≤ tt, λ i b used. place-normal l i (length-row 14 64 l sized i b) (all-at (goodAt l) 64 i (sym (places .before .places-good .ensures) ∙ not-false _ (places .if2 .left)) b) used))
 
@@ -63,7 +64,8 @@ returns-4 c =
     let front = c .before .before .before in
     let places = front .before .before in
     let size = places .before .before .before in
-    let alone = c .before .rows-alone .ensures ∙ ap (λ (shape : Shape). all (rowAlone shape (take 896 (now (size .before .before .args .state)))) 64) (c .before .before .shape .ensures) in
+    let st = now (size .before .before .args .state) in
+    let alone = c .before .rows-alone .ensures ∙ ap (λ (shape : Shape). all (rowAlone shape (take (length st - 15) st)) 64) (c .before .before .shape .ensures) in
     record { answer = rw (eq-eqb _ _ (size .if1 .left), sym (places .before .places-good .ensures) ∙ not-false _ (places .if2 .left), sym (front .before .used-first .ensures) ∙ not-false _ (front .if3 .left), sym alone ∙ not-true _ (c .if4 .taken)) }
 
 returns-5 : tie.Need-returns-5
@@ -74,14 +76,15 @@ returns-5 c =
     let places = front .before .before in
     let size = places .before .before .before in
     let st = now (size .before .before .args .state) in
-    let alone = last .before .rows-alone .ensures ∙ ap (λ (shape : Shape). all (rowAlone shape (take 896 st)) 64) (last .before .before .shape .ensures) in
-    record { answer = rw (eq-eqb _ _ (size .if1 .left), sym (places .before .places-good .ensures) ∙ not-false _ (places .if2 .left), sym (front .before .used-first .ensures) ∙ not-false _ (front .if3 .left), sym alone ∙ not-false _ (last .if4 .left)) (c .wait-good .ensures ∙ ap goodWait (take-all (length st - 896) (drop 896 st) (omega (arith, length-drop 896 st)))) }
+    let alone = last .before .rows-alone .ensures ∙ ap (λ (shape : Shape). all (rowAlone shape (take (length st - 15) st)) 64) (last .before .before .shape .ensures) in
+    record { answer = rw (eq-eqb _ _ (size .if1 .left), sym (places .before .places-good .ensures) ∙ not-false _ (places .if2 .left), sym (front .before .used-first .ensures) ∙ not-false _ (front .if3 .left), sym alone ∙ not-false _ (last .if4 .left)) (c .wait-good .ensures ∙ ap goodWait (take-all (length st - (length st - 15)) (drop (length st - 15) st) (omega (arith, length-drop (length st - 15) st)))) }
 
 pub is-good-spec : {M : Type 1} → statement M
 is-good-spec =
     tie.close
     (tie.spec
     returns
+    (λ c. search needs)
     slice-aggregate-list
     places-good-requires
     returns-2

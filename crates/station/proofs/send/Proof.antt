@@ -8,7 +8,7 @@ use Rattle.station.specs.Asks.{waits}
 use native.Mathlib.Omega.{arith}
 use denote.Ref.{now}
 use Rattle.station.proofs.Cases.{Sends, send-bad-state, send-none, send-frame, sent-short}
-use Rattle.station.proofs.StateLaws.{code-at, state-is}
+use Rattle.station.proofs.StateLaws.{code-at, state-fits}
 use borrow.Author.Needs.{needs}
 use Rattle.station.proofs.send.Statement.{statement}
 use Rattle.station.proofs.send.Tie as tie
@@ -16,14 +16,17 @@ use Rattle.station.proofs.send.Tie as tie
 returns : tie.Need-returns
 returns c = send-bad-state _ _ (sym (c .before .is-good .ensures .answer) ∙ not-true _ (c .if1 .taken))
 
+sub-at : tie.Need-sub-at
+sub-at c = state-fits (now (c .before .before .before .before .args .state)) (sym (c .before .is-good .ensures .answer) ∙ not-false _ (c .if1 .left))
+
 shared-slice-read-code : tie.Need-shared-slice-read-code
-shared-slice-read-code c = omega (arith, state-is (now (c .before .before .before .before .before .args .state)) (sym (c .before .before .is-good .ensures .answer) ∙ not-false _ (c .before .if1 .left)) .sized)
+shared-slice-read-code c = omega (arith, sub-at (c .before))
 
 returns-2 : tie.Need-returns-2
 returns-2 c = send-none _ _ (sym (c .before .before .before .is-good .ensures .answer) ∙ not-false _ (c .before .before .if1 .left)) (code-at (now (c .before .before .before .before .before .before .args .state)) ∙ c .if2 .taken)
 
 asked-requires : tie.Need-asked-requires
-asked-requires c κs = state-is (now (c .before .before .before .before .before .before .before .args .state)) (sym (c .before .before .before .before .is-good .ensures .answer) ∙ not-false _ (c .before .before .before .if1 .left)) .sized
+asked-requires c κs = sub-at (c .before .before .before)
 
 -- what was written is what the station sends
 done : (c : tie.After-struct-known)
@@ -37,8 +40,8 @@ done c = let a = c .before .before .before .before .before .before .before .befo
     let waiting : waits st ≡ true = rw (ne-eqb _ _ (λ e. c .before .before .before .before .before .before .before .if2 .left (sym (code-at st) ∙ e))) in
     send-frame st (now (a .buffer)) good _ (rw (c .before .before .before .before .before .before .command-of .ensures, ← code-at st, c .before .before .before .before .before .asked .ensures) (awaited-frame (state-awaits st good waiting))) (c .before .before .before .write .ensures)
 
-cast-t11 : tie.Need-cast-t11
-cast-t11 c = record { fits = subst (λ (s : Sent). s .length < 256) (sym (done c .answer)) (sent-short _ _) }
+cast-t13 : tie.Need-cast-t13
+cast-t13 c = record { fits = subst (λ (s : Sent). s .length < 256) (sym (done c .answer)) (sent-short _ _) }
 
 returns-3 : tie.Need-returns-3
 returns-3 c = done c
@@ -49,11 +52,12 @@ send-spec =
     (tie.spec
     (λ c κs. search needs)
     returns
+    sub-at
     shared-slice-read-code
     returns-2
     (λ c κs. search needs)
     asked-requires
     (λ c κs. search needs)
-    cast-t11
+    cast-t13
     (λ c. search needs)
     returns-3)

@@ -1,14 +1,13 @@
-use Prim.Native.Nat.{_<_, ℕ, _≤_}
-use mathlib.Core.Path.{ap, _≡_, sym, _∙_}
+use Prim.Native.Nat.{ℕ, _-_, _/_, _≤_, _<_}
+use mathlib.Core.Path.{_≡_, sym, ap, subst, _∙_}
 use mathlib.Core.List.{List, _++_}
 use mathlib.Core.Bool.{false, not, _&&_, true}
-use lib.ListN.{take, drop, length}
-use Rattle.station.proofs.StateLaws.{list-of, lent-long, code-at, state-is, list-long}
-use Rattle.station.proofs.ListLaws.{count-is}
+use lib.ListN.{length}
+use Rattle.station.proofs.StateLaws.{list-long, wait-long, list-of, lent-long, code-at, state-fits}
 use Rattle.rows.specs.Words.{first}
 use Rattle.terms.specs.Strings.{legal}
 use Rattle.station.specs.Replies.{grants, carriesLength, fits, adds}
-use Rattle.station.specs.State.{askedIn, nothing, listed, added, unused, stateLength, codeIn, waitOf, listOf}
+use Rattle.station.specs.State.{listOf, waitOf, placeCount, unused, listed, added, codeIn, askedIn, nothing}
 use Rattle.station.specs.Good.{goodState}
 use native.Mathlib.Omega.{arith}
 use denote.Ref.{now}
@@ -22,12 +21,12 @@ use Rattle.station.proofs.take_reply.Tie as tie
 good : (c : tie.Else1) → goodState (now (c .before .before .before .before .args .state)) ≡ true
 good c = sym (c .before .is-good .ensures .answer) ∙ not-false _ (c .if1 .left)
 
-sized : (c : tie.Else1) → length (now (c .before .before .before .before .args .state)) ≡ stateLength
-sized c = state-is _ (good c) .sized
+sub-end : tie.Need-sub-end
+sub-end c = state-fits _ (good c)
 
-list-sized : (c : tie.Else1) → length (take 896 (now (c .before .before .before .before .args .state))) ≡ 896
-unfolding listOf
-list-sized c = list-long (now (c .before .before .before .before .args .state)) (sized c)
+-- the places of a state's list
+places-are : (st : List ℕ) → (length st - 15) / 14 ≡ placeCount (listOf st)
+places-are st = ap (λ (k : ℕ). k / 14) (sym (list-long st))
 
 listed-reply : (c : tie.Else2) → let a = c .before .before .before .before .before .before .before .args in fits (codeIn (waitOf (now (a .state)))) (a .reply) ≡ true
 listed-reply c = rw (code-at (now (c .before .before .before .before .before .before .before .args .state))) (sym (c .before .is-listed-reply .ensures) ∙ not-false _ (c .if2 .left))
@@ -48,67 +47,71 @@ returns : tie.Need-returns
 returns c = reply-bad-state _ _ (sym (c .before .is-good .ensures .answer) ∙ not-true _ (c .if1 .taken))
 
 slice-read-code : tie.Need-slice-read-code
-slice-read-code c = omega (arith, sized (c .before))
+slice-read-code c = omega (arith, sub-end (c .before))
 
 returns-2 : tie.Need-returns-2
 returns-2 c = reply-unlisted _ _ (good (c .before .before .before)) (rw (code-at (now (c .before .before .before .before .before .before .before .args .state))) (sym (c .before .is-listed-reply .ensures) ∙ not-true _ (c .if2 .taken)))
 
 asked-requires : tie.Need-asked-requires
-asked-requires c κs = sized (c .before .before .before .before)
+asked-requires c κs = sub-end (c .before .before .before .before)
 
 returns-3 : tie.Need-returns-3
 returns-3 c = reply-bad-grant _ _ (good (c .before .before .before .before .before .before .before)) (listed-reply (c .before .before .before .before)) (rw (code-at (now (c .before .before .before .before .before .before .before .before .before .before .before .args .state)), ← c .before .before .asked .ensures) (sym (c .before .is-bad-grant .ensures) ∙ c .if3 .taken))
 
-slice-reshare-prefix-is-new : tie.Need-slice-reshare-prefix-is-new
-slice-reshare-prefix-is-new c = omega (arith, sized (c .before .before .before .before .before .before .before))
-
 slice-aggregate-is-new : tie.Need-slice-aggregate-is-new
-slice-aggregate-is-new c = sym (list-sized (c .before .before .before .before .before .before .before .before))
+unfolding listOf
+slice-aggregate-is-new c = sym (list-long (now (c .before .before .before .before .before .before .before .before .before .before .before .before .args .state)))
 
 end-wait-requires : tie.Need-end-wait-requires
-end-wait-requires c κs = sized (c .before .before .before .before .before .before .before .before .before .before .before)
+end-wait-requires c κs = sub-end (c .before .before .before .before .before .before .before .before .before .before .before)
 
 returns-4 : tie.Need-returns-4
 returns-4 c = let g = reply-adds-none _ _ (good (c .before .before .before .before .before .before .before .before .before .before .before .before .before .before)) (listed-reply (c .before .before .before .before .before .before .before .before .before .before .before)) (no-bad-grant (c .before .before .before .before .before .before .before)) (sym (adds-is (c .before .before .before .before .before)) ∙ not-true _ (c .before .before .before .before .if4 .taken)) in
     record { answer = g .answer; left = c .before .before .end-wait .ensures ∙ g .left }
 
-slice-reshare-prefix-count : tie.Need-slice-reshare-prefix-count
-slice-reshare-prefix-count c = omega (arith, sized (c .before .before .before .before .before .before .before .before .before .before))
-
 slice-aggregate-count : tie.Need-slice-aggregate-count
-slice-aggregate-count c = sym (list-sized (c .before .before .before .before .before .before .before .before .before .before .before))
+unfolding listOf
+slice-aggregate-count c = sym (list-long (now (c .before .before .before .before .before .before .before .before .before .before .before .before .before .before .before .args .state)))
 
 count-requires : tie.Need-count-requires
-count-requires c κs = omega (arith, list-sized (c .before .before .before .before .before .before .before .before .before .before .before))
+unfolding listOf
+count-requires c κs = omega (arith, list-long (now (c .before .before .before .before .before .before .before .before .before .before .before .before .before .before .before .args .state)))
 
 returns-5 : tie.Need-returns-5
 unfolding listed listOf
-returns-5 c = let l = take 896 (now (c .before .before .before .before .before .before .before .before .before .before .before .before .before .before .before .before .before .args .state)) in
-    let many : 64 ≤ first (unused l) 64 = rw (c .before .count .ensures) at (c .if5 .taken) in
-    reply-full _ _ (good (c .before .before .before .before .before .before .before .before .before .before .before .before .before)) (listed-reply (c .before .before .before .before .before .before .before .before .before .before)) (no-bad-grant (c .before .before .before .before .before .before)) (sym (adds-is (c .before .before .before .before)) ∙ not-false _ (c .before .before .before .if4 .left)) (rw (count-is 64 l (list-sized (c .before .before .before .before .before .before .before .before .before .before .before .before .before))) many)
-
-slice-relend-prefix-put : tie.Need-slice-relend-prefix-put
-slice-relend-prefix-put c = omega (arith, sized (c .before .before .before .before .before .before .before .before .before .before .before .before .before))
+returns-5 c =
+    let st = now (c .before .before .before .before .before .before .before .before .before .before .before .before .before .before .before .before .before .args .state) in
+    let many = rw (c .before .count .ensures) at (c .if5 .taken) in
+    reply-full _ _ (good (c .before .before .before .before .before .before .before .before .before .before .before .before .before)) (listed-reply (c .before .before .before .before .before .before .before .before .before .before)) (no-bad-grant (c .before .before .before .before .before .before)) (sym (adds-is (c .before .before .before .before)) ∙ not-false _ (c .before .before .before .if4 .left)) (subst (λ (n : ℕ). n ≤ first (unused (listOf st)) n) (places-are st) many)
 
 slice-aggregate-put : tie.Need-slice-aggregate-put
-slice-aggregate-put c = sym (list-sized (c .before .before .before .before .before .before .before .before .before .before .before .before .before .before))
+unfolding listOf
+slice-aggregate-put c = sym (list-long (now (c .before .before .before .before .before .before .before .before .before .before .before .before .before .before .before .before .before .before .args .state)))
 
 put-requires : tie.Need-put-requires
-put-requires c κs = omega (arith, list-sized (c .before .before .before .before .before .before .before .before .before .before .before .before .before .before))
+unfolding listOf
+put-requires c κs = omega (arith, list-long (now (c .before .before .before .before .before .before .before .before .before .before .before .before .before .before .before .before .before .before .args .state)))
 
 end-wait-requires-2 : tie.Need-end-wait-requires-2
-unfolding listOf
-end-wait-requires-2 c κs = lent-long (now (c .before .before .before .before .before .before .before .before .before .before .before .before .before .before .before .before .before .before .before .before .before .before .args .state)) (c .before .before .before .put .last .0) (sized (c .before .before .before .before .before .before .before .before .before .before .before .before .before .before .before .before .before .before)) (c .before .before .before .put .kept .0)
+unfolding listOf waitOf
+end-wait-requires-2 c κs =
+    let known = c .before .before .before .before .before .before .before .before .before .before .before .before .before .before .before .before .before .before in
+    let st = now (known .before .before .before .before .args .state) in
+    let fits : 15 ≤ length st = sub-end known in
+    omega (arith, lent-long st (c .before .before .before .put .last .0) fits (c .before .before .before .put .kept .0))
 
 returns-6 : tie.Need-returns-6
-unfolding listed listOf added
-returns-6 c = let st = now (c .before .before .before .before .before .before .before .before .before .before .before .before .before .before .before .before .before .before .before .before .before .before .before .before .before .args .state) in
-    let l = take 896 st in
-    let n = c .before .before .before .before .before .before .before .before .before .count .ensures ∙ ap (first (unused l)) (sym (count-is 64 l (list-sized (c .before .before .before .before .before .before .before .before .before .before .before .before .before .before .before .before .before .before .before .before .before)))) in
-    let few : listed (listOf st) < 64 = rw n at (c .before .before .before .before .before .before .before .before .if5 .left) in
-    let laid : c .before .before .before .before .before .before .put .last .0 ≡ added (listOf st) (askedIn (waitOf st)) = c .before .before .before .before .before .before .put .ensures ∙ rw (n, c .before .before .before .before .before .before .before .before .before .before .before .before .before .before .before .before .asked .ensures) in
-    let g = reply-adds _ _ (good (c .before .before .before .before .before .before .before .before .before .before .before .before .before .before .before .before .before .before .before .before .before)) (listed-reply (c .before .before .before .before .before .before .before .before .before .before .before .before .before .before .before .before .before .before)) (no-bad-grant (c .before .before .before .before .before .before .before .before .before .before .before .before .before .before)) (sym (adds-is (c .before .before .before .before .before .before .before .before .before .before .before .before)) ∙ not-false _ (c .before .before .before .before .before .before .before .before .before .before .before .if4 .left)) few in
-    record { answer = g .answer; left = c .before .before .end-wait2 .ensures ∙ ap (λ (m : List ℕ). m ++ nothing) (list-of (c .before .before .before .before .before .before .put .last .0) (drop 896 st) (c .before .before .before .before .before .before .put .kept .0 ∙ list-sized (c .before .before .before .before .before .before .before .before .before .before .before .before .before .before .before .before .before .before .before .before .before)) ∙ laid) ∙ g .left }
+unfolding listed listOf waitOf added
+returns-6 c =
+    let laid = c .before .before .before .before .before .before in
+    let room = laid .before .before in
+    let known = room .before .before .before .before .before .before .before .before .before .before .before .before .before in
+    let st = now (known .before .before .before .before .args .state) in
+    let n = room .before .count .ensures ∙ ap (first (unused (listOf st))) (places-are st) in
+    let few : listed (listOf st) < placeCount (listOf st) = subst (λ (k : ℕ). listed (listOf st) < k) (places-are st) (rw n at (room .if5 .left)) in
+    let more : laid .put .last .0 ≡ added (listOf st) (askedIn (waitOf st)) = laid .put .ensures ∙ rw (n, room .before .before .before .before .before .before .before .before .asked .ensures) in
+    let g = reply-adds _ _ (good known) (listed-reply (room .before .before .before .before .before .before .before .before .before .before)) (no-bad-grant (room .before .before .before .before .before .before)) (sym (adds-is (room .before .before .before .before)) ∙ not-false _ (room .before .before .before .if4 .left)) few in
+    record { answer = g .answer; left = c .before .before .end-wait2 .ensures ∙ ap (λ (m : List ℕ). m ++ nothing) (list-of (laid .put .last .0) (waitOf st) (wait-long st (sub-end known)) ∙ more) ∙ g .left }
 
 pub take-reply-spec : {M : Type 1} → statement M
 take-reply-spec =
@@ -117,6 +120,7 @@ take-reply-spec =
     (λ c κs. search needs)
     (λ c. search needs)
     returns
+    sub-end
     slice-read-code
     (λ c κs. search needs)
     (λ c. search needs)
@@ -125,18 +129,18 @@ take-reply-spec =
     (λ c κs. search needs)
     (λ c. search needs)
     returns-3
-    slice-reshare-prefix-is-new
+    (λ c. search needs)
     slice-aggregate-is-new
     (λ c κs. search needs)
     end-wait-requires
     (λ c. search needs)
     returns-4
-    slice-reshare-prefix-count
+    (λ c. search needs)
     slice-aggregate-count
     count-requires
     (λ c. search needs)
     returns-5
-    slice-relend-prefix-put
+    (λ c. search needs)
     slice-aggregate-put
     put-requires
     end-wait-requires-2
