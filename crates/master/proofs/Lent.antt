@@ -1,5 +1,6 @@
--- A local array is lent as a `&mut [T]` for a lifetime that a walk makes, and its elements come back: for any element type R of one MIR type that is plain data.
---     array-lends      the local's cell  ⊢ ⇛ ∃ γ. own (the `&κ mut [T]` at the local, under γ) ∗ the lender's part
+-- A local array is taken apart into its elements, which are lent as a `&mut [T]` for a lifetime that a walk makes, and come back: for any element type R of one MIR type that is plain data.
+--     array-elems      the local's cell, at xs  ⊢  the elements xs, in the local
+--     array-lends      length xs ≡ n →  the elements xs, in the local  ⊢ ⇛ ∃ γ. own (the `&κ mut [T]` at the local, under γ) ∗ the lender's part
 --     array-back       [†κ] ∗ the lender's part ∗ finally γ zs  ⊢ ⇛ ⌜length zs ≡ n⌝ ∗ the elements zs, in the local
 --     array-cell       length zs ≡ n →  the elements zs, in the local  ⊢  the local's cell, at zs
 -- Assumes `Given`.
@@ -35,25 +36,22 @@ module _ {M : Type 1} (𝓤 : URA M) (H : Heap 𝓤) (A : Atoms 𝓤) (W : Given
   abbrev pub ref : GName → List (R .Denot) → RefT (List (R .Denot))
   ref γ xs = record { ptr = (l, 0); name = γ; now = xs }
 
-  -- the local's cell, with the value v, is the array in memory
-  part-in : Makes 𝓤 H A R (Is R) → (xs : List (R .Denot)) (v : Val) → Is (Array R n) xs (v ∷ []) → ent 𝓤 (H .at fullShare (tyArray (lone (R .mir)) n) l 0 v) (sem 𝓤 H A (partAt (Array R n) fullShare xs l 0))
+  pub array-elems : Makes 𝓤 H A R (Is R) → (xs : List (R .Denot)) (v : Val) → Is (Array R n) xs (v ∷ []) → ent 𝓤 (H .at fullShare (tyArray (lone (R .mir)) n) l 0 v) (sem 𝓤 H A (row R fullShare xs l 0))
   unfolding partOf
-  part-in mk xs v is =
+  array-elems mk xs v is =
       qed W (‵ (fat fullShare (tyArray (lone (R .mir)) n) l 0 v) ∷ []) ∵
       use1 W (‵ (cellAt fullShare (Array R n .mir) (v ∷ []) l 0)) (W .laws .at-raw fullShare (tyArray (lone (R .mir)) n) l 0 v) $
       owned ! (Array R n) (Is (Array R n)) (array-makes 𝓤 H A W R mk n) xs (v ∷ []) is $ move ! (1 ∷ 0 ∷ []) $ fjoin ! $
-      fpack ! (List Val) (λ us. fsep (cellAt fullShare (Array R n .mir) us l 0) (Array R n .own xs us)) (v ∷ []) $ done !
+      fpack ! (List Val) (λ us. fsep (cellAt fullShare (Array R n .mir) us l 0) (Array R n .own xs us)) (v ∷ []) $
+      use1 W (‵ (arr-parts (shares R) n .part fullShare xs l 0)) (array-apart 𝓤 H A W R fullShare single n xs l 0) $ fsplit ! $ drop ! $ done !
 
   abbrev Lent : Lifetime → Lft → List (R .Denot) → ℕ → GName → SProp 𝓤
   Lent ℓ κ xs m γ = sep 𝓤 (sem 𝓤 H A (MutSlice ℓ κ R .own (ref γ xs) (sliceVal (l, 0) m ∷ []))) (A .lent κ (Held R m l 0 γ))
 
-  pub array-lends : Makes 𝓤 H A R (Is R) → (ℓ : Lifetime) (κ : Lft) (xs : List (R .Denot)) (v : Val) → Is (Array R n) xs (v ∷ []) → Room R n → ent 𝓤 (H .at fullShare (tyArray (lone (R .mir)) n) l 0 v) (H .⇛ (ex 𝓤 (Lent ℓ κ xs n)))
-  array-lends mk ℓ κ xs v is room =
-      let e : length xs ≡ n = is .1 .0 .1 in
-      subst (λ (m : ℕ). ent 𝓤 (H .at fullShare (tyArray (lone (R .mir)) n) l 0 v) (H .⇛ (ex 𝓤 (Lent ℓ κ xs m)))) e
-      (qed W (‵ (fat fullShare (tyArray (lone (R .mir)) n) l 0 v) ∷ []) ∵ use1 W (‵ (partAt (Array R n) fullShare xs l 0)) (part-in mk xs v is) $
-      use1 W (‵ (arr-parts (shares R) n .part fullShare xs l 0)) (array-apart 𝓤 H A W R fullShare single n xs l 0) $ fsplit ! $ drop ! $
-      use1 W (‵ (cells (mem R) xs l 0)) (whole-in 𝓤 H A W R xs l 0) $ by ! (lends-slice 𝓤 H A W R ℓ κ xs l 0 (subst (Room R) (sym e) room)))
+  pub array-lends : (ℓ : Lifetime) (κ : Lft) (xs : List (R .Denot)) → length xs ≡ n → Room R n → ent 𝓤 (sem 𝓤 H A (row R fullShare xs l 0)) (H .⇛ (ex 𝓤 (Lent ℓ κ xs n)))
+  array-lends ℓ κ xs e room =
+      subst (λ (m : ℕ). ent 𝓤 (sem 𝓤 H A (row R fullShare xs l 0)) (H .⇛ (ex 𝓤 (Lent ℓ κ xs m)))) e
+      (qed W (‵ (row R fullShare xs l 0) ∷ []) ∵ use1 W (‵ (cells (mem R) xs l 0)) (whole-in 𝓤 H A W R xs l 0) $ by ! (lends-slice 𝓤 H A W R ℓ κ xs l 0 (subst (Room R) (sym e) room)))
 
   pub array-back : (κ : Lft) (γ : GName) (zs : List (R .Denot))
       → ent 𝓤 (sep 𝓤 (A .dead κ) (sep 𝓤 (A .lent κ (Held R n l 0 γ)) (sem 𝓤 H A (finally R γ zs)))) (H .⇛ (guard 𝓤 (length zs ≡ n) (sem 𝓤 H A (row R fullShare zs l 0))))

@@ -123,13 +123,19 @@ pub fn poll_record(s: Station, word: u64, number: u32, heard: bool, locks: &mut 
     turn_record(s, number as u8, heard, locks)
 }
 
-// The turn over the records in bytes: they are read into a row, the one row that there is, and that is lent. Its own
+// The turn over the records in bytes: they are read into a row, where it stands, and that is lent. Its own
 // parameters are plain, so whoever calls it needs no walk.
 pub fn lend_row(records: &[u8], locks: &mut [u8], number: u32, heard: bool) -> Step
     requires { ⌜ length (now records) ≡ 18 * numbers ⌝ }
     ensures { λ r. ⌜ Lends number heard (now (records .entry)) (now (locks .entry)) r (now (locks .exit)) ⌝ }
 {
-    let mut row = who::lent::row_of(records);
+    let none = who::lent::vacant();
+    let mut row = [none; 64];
+    let mut n: usize = 0;
+    while n < who::NUMBERS {
+        row[n] = who::station_at(records, n);
+        n += 1;
+    }
     let answer = crate::poll_row(&mut row, locks, number, heard);
     let at = slot_of(number);
     Step {

@@ -1,5 +1,5 @@
 // The records as one row of 64 stations, as the poll turn is lent them: the check, which also says who is logged in, and
-// the way from the bytes to such a row.
+// the bytes in which such a row stands.
 use crate::NUMBERS;
 use crate::RECORD;
 use crate::Roll;
@@ -123,18 +123,4 @@ pub fn is_row(records: &[u8]) -> bool
         n += 1;
     }
     true
-}
-
-// The row that stands in the bytes.
-pub fn row_of(records: &[u8]) -> [Station; 64]
-    requires { ⌜ length (now records) ≡ 18 * numbers ⌝ }
-    ensures { λ r. ⌜ r ≡ stationsOf (now (records .entry)) ⌝ }
-{
-    let mut row = [vacant(); 64];
-    let mut n: usize = 0;
-    while n < NUMBERS {
-        row[n] = crate::station_at(records, n);
-        n += 1;
-    }
-    row
 }
