@@ -7,8 +7,6 @@ use mathlib.Core.List.{List}
 use lib.Dec.{eqb}
 use borrow.Author.Tests.{eqb-false, not-false}
 use Rattle.rows.proofs.BoolLaws.{both, or-rest}
-use Rattle.rows.specs.Rows.{setRow}
-use Rattle.who.specs.Records.{bytesOf}
 use Rattle.who.specs.Good.{goodCounts, numbers}
 use Rattle.who.specs.Logins.{loggedIn}
 use Rattle.who.proofs.RecordLaws.{station-counts}
@@ -17,7 +15,7 @@ use Rattle.master.specs.declared.Turned.the-variants.{Refused}
 use Rattle.master.specs.Tables.{goodTables}
 use Rattle.master.specs.Refusals.{ANYBODY, unknown}
 use Rattle.master.proofs.Deeds.{records-good}
-use Rattle.master.specs.Polls.{stationAt, pollRefusal, Polls, turnRefusal, stationTurn, placing, pollEffect}
+use Rattle.master.specs.Polls.{stationAt, pollRefusal, Polls, turnRefusal, pollEffect}
 use Rattle.master.specs.Answers.{turnTold}
 use Rattle.master.specs.Inner.{seatRefusal}
 use Rattle.master.proofs.EffectLaws.{refusing}
@@ -62,7 +60,7 @@ module _ (n : ℕ) (heard : Bool) (t w : List ℕ) where
   -- a refused turn, by its number
   pub polls-refused : (k : ℕ) → pollRefusal n heard t w ≡ k → (k ≡ 0 → ⊥) → Polls n heard t w (Refused k) t w
   unfolding pollEffect turnTold
-  polls-refused k e ne = rw e (refusing k t w (placing (λ s. setRow 18 w n (bytesOf s)) (stationTurn n (stationAt w n) heard t)) ne)
+  polls-refused k e ne = rw e (refusing k t w _ ne)
 
   pub poll-bad-tables : goodTables t w ≡ false → pollRefusal n heard t w ≡ 11
   unfolding pollRefusal turnRefusal

@@ -25,7 +25,7 @@ use Rattle.locks.proofs.GoodLaws.{sound-same}
 use Rattle.master.specs.declared.Step.{Step}
 use Rattle.master.specs.declared.Turned.the-variants.{Refused, Turn as Turned′}
 use Rattle.master.specs.Refusals.{ANYBODY, unknown}
-use Rattle.master.specs.Polls.{withCounts, afterTurn, turnRefusal, dueNow, outNow, stationTurn, placing}
+use Rattle.master.specs.Polls.{withCounts, afterTurn, turnRefusal, dueNow, outNow, stationTurn}
 use Rattle.master.specs.RowPolls.{rowRefusal, RowPolls, rowEffect}
 use Rattle.master.specs.Answers.{turnTold}
 use Rattle.master.specs.Effects.{unless}
@@ -87,7 +87,7 @@ module _ (word n : ℕ) (heard : Bool) (s : Station) (t : List ℕ) where
 
   pub steps-refused : (k : ℕ) → k ≡ seat → (k ≡ 0 → ⊥) → MakesStep (stepRefusal word n s heard t) n s heard t (record { next = s; answer = Refused k }) t
   unfolding turnTold
-  steps-refused k e ne = let same : stepRefusal word n s heard t ≡ k = step-refusal ∙ rw (sym e, ne-eqb k 0 ne) in rw same (refusing k t s (stationTurn n s heard t) ne)
+  steps-refused k e ne = let same : stepRefusal word n s heard t ≡ k = step-refusal ∙ rw (sym e, ne-eqb k 0 ne) in rw same (refusing k t s _ ne)
 
   pub steps-turned : seat ≡ 0 → (p : Step) (t′ : List ℕ) → MakesStep (early s heard) n s heard t p t′ → MakesStep (stepRefusal word n s heard t) n s heard t p t′
   steps-turned z p t′ d = let same : stepRefusal word n s heard t ≡ early s heard = step-refusal ∙ rw z in rw same d
@@ -104,7 +104,7 @@ module _ (n : ℕ) (heard : Bool) (xs : List Station) (t : List ℕ) where
   unfolding rowEffect turnTold
   row-bad m =
       let bad : rowRefusal n heard xs t ≡ 11 = unfold rowRefusal turnRefusal in rw m in
-      rw bad (refusing 11 t xs (placing (λ s. set xs n s) (stationTurn n (stationIn xs n) heard t)) (λ e. omega arith))
+      rw bad (refusing 11 t xs _ (λ e. omega arith))
 
   module _ (good : goodRow xs ≡ true) where
     abbrev at : ℕ

@@ -36,7 +36,7 @@ module _ (n : ℕ) (f s t w : List ℕ) where
   -- a refused frame, by its number
   pub serves-refused : (k : ℕ) → refusal n f s t w ≡ k → (k ≡ 0 → ⊥) → Serves n f s t w (Refused k) t w
   unfolding frameEffect told
-  serves-refused k e ne = rw e (refusing k t w (requestEffect (requestIn f) n s t w) ne)
+  serves-refused k e ne = rw e (refusing k t w _ ne)
 
   pub bad-tables : goodTables t w ≡ false → refusal n f s t w ≡ 11
   unfolding refusal
