@@ -1,7 +1,7 @@
 -- What holds of a station that follows the rules at every moment of a run.
 use Prim.Native.Nat.{ℕ, _*_, _≤_}
 use native.Mathlib.Omega.{arith}
-use mathlib.Core.Path.{_≡_, refl, sym, ap, subst, _∙_}
+use mathlib.Core.Path.{_≡_, refl, sym, subst, _∙_}
 use mathlib.Core.Bool.{Bool, true}
 use mathlib.Core.List.{List}
 use borrow.Author.Tests.{eq-eqb}
@@ -16,7 +16,7 @@ use Rattle.master.specs.Tables.{goodTables}
 use Rattle.master.proofs.Outcomes.{no-answer}
 use Rattle.master.specs.Answers.{answers, status-byte, login-as}
 use Rattle.master.specs.Refusals.{ANYBODY}
-use Rattle.master.proofs.Deeds.{loginNumber, deed}
+use Rattle.master.proofs.Deeds.{deed}
 use Rattle.master.proofs.Keeps.{fresh-tables, logout-out, frame-keeps, frame-others-in, frame-others-have}
 use Rattle.master.proofs.PollKeeps.{turn-deed, poll-keeps, poll-others-have}
 use Rattle.station.specs.State.{waitOf, codeIn}
@@ -52,8 +52,8 @@ module _ (k : ℕ) where
 
   -- a login that is answered with k
   pub begins : (h : Run) (f s : List ℕ) (found : Bool) (serial : ℕ) → (k ≡ 0 → ⊥) → answerIn h ANYBODY f s ≡ answers (login-as k found serial) → Enters (tables h .locks) (tables h .records) (run-good h) k (tables (h then frame ANYBODY f s) .locks) (tables (h then frame ANYBODY f s) .records)
-  unfolding answerIn tables effect loginNumber
-  begins h f s found serial nz e = enters _ _ (run-good h) ANYBODY k f s _ (deed ANYBODY f s _ _) (ap loginNumber e) nz
+  unfolding answerIn tables effect
+  begins h f s found serial nz e = enters _ _ (run-good h) ANYBODY k f s _ (deed ANYBODY f s _ _) found serial e nz
 
   empty-agrees : (h : Run) (f s : List ℕ) → Enters (tables h .locks) (tables h .records) (run-good h) k (tables (h then frame ANYBODY f s) .locks) (tables (h then frame ANYBODY f s) .records) → At (h then frame ANYBODY f s) freshState
   unfolding codeIn

@@ -21,11 +21,13 @@ use Rattle.locks.proofs.GoodLaws as tableLaws
 use Rattle.locks.proofs.HoldingLaws.{held-in}
 use Rattle.master.specs.Tables.{goodTables}
 use Rattle.master.specs.Polls.{stationAt}
-use Rattle.master.proofs.Deeds.{records-good, locks-good, loginNumber, Deed, refused, quiet, logged-in, locked, unlocked, cleared, logged-out}
+use Rattle.master.proofs.Deeds.{records-good, locks-good, Deed, refused, quiet, logged-in, locked, unlocked, cleared, logged-out}
 use Rattle.master.proofs.Keeps.{given-free, login-in, logout-out}
 use Rattle.master.proofs.PollKeeps.{TurnDeed}
 use Rattle.master.specs.Effects.{Effect}
 use Rattle.master.specs.Frames.{numberGiven}
+use Rattle.master.proofs.Outcomes.{no-answer}
+use Rattle.master.specs.Answers.{answers, login-as}
 
 module _ (t w : List ℕ) (good : goodTables t w ≡ true) where
   pub table : tableLaws.Good locks (loggedIn w) t
@@ -57,22 +59,23 @@ module _ (t w : List ℕ) (good : goodTables t w ≡ true) where
       let s = loggedInAs name serial product found in
       rw (row-setRow 18 numbers w (omega (arith, sized)) k below (bytesOf s) (length-bytesOf s n8 s4)) (station-back s n8 s4 (omega arith))
 
-  pub enters : (n k : ℕ) (f s : List ℕ) (d : Effect (List ℕ)) → Deed n f s t w d → loginNumber (d .tells) ≡ k → (k ≡ 0 → ⊥) → Enters k (d .locks) (d .records)
-  unfolding loginNumber loggedInAs
-  enters n k f s _ (refused j ne) e nz = absurd (nz (sym e))
-  enters n k f s _ (quiet a z) e nz = absurd (nz (sym e ∙ z))
-  enters n k f s _ (logged-in at given name serial product found n8 s4) e nz =
+  pub enters : (n k : ℕ) (f s : List ℕ) (d : Effect (List ℕ)) → Deed n f s t w d → (known : Bool) (serial : ℕ) → d .tells ≡ answers (login-as k known serial) → (k ≡ 0 → ⊥) → Enters k (d .locks) (d .records)
+  unfolding loggedInAs
+  enters n k f s _ (refused j ne) y z e nz = absurd (no-answer e)
+  enters n k f s _ (quiet a none) y z e nz = absurd (nz (none k y z cc))
+  enters n k f s _ (logged-in at given name serial product found n8 s4) y z e nz =
       let free = given-free t w good given in
+      let number : numberGiven w ≡ k = cc in
       record {
-        was-out = rw (← e) (free .out);
-        is-in = login-in t w good _ free name serial product found n8 s4 k ∙ rw (eq-eqb k (numberGiven w) (sym e));
-        no-misses = rw (← e) (ap (λ (x : Station). x .misses) (entered (numberGiven w) (free .below) name serial product found n8 s4));
+        was-out = rw (← number) (free .out);
+        is-in = login-in t w good _ free name serial product found n8 s4 k ∙ rw (eq-eqb k (numberGiven w) (sym number));
+        no-misses = rw (← number) (ap (λ (x : Station). x .misses) (entered (numberGiven w) (free .below) name serial product found n8 s4));
         same-locks = refl;
       }
-  enters n k f s _ (locked i x b) e nz = absurd (nz (sym e))
-  enters n k f s _ (unlocked i x) e nz = absurd (nz (sym e))
-  enters n k f s _ (cleared i) e nz = absurd (nz (sym e))
-  enters n k f s _ (logged-out i ne) e nz = absurd (nz (sym e))
+  enters n k f s _ (locked i x b) y z e nz = absurd (nz cc)
+  enters n k f s _ (unlocked i x) y z e nz = absurd (nz cc)
+  enters n k f s _ (cleared i) y z e nz = absurd (nz cc)
+  enters n k f s _ (logged-out i ne) y z e nz = absurd (nz cc)
 
   -- a poll turn that leaves k logged in leaves what k holds
   pub turn-holds : (n : ℕ) (heard : Bool) (k : ℕ) (d : Effect (List ℕ)) → TurnDeed n heard t w d → n ≡ k → loggedIn (d .records) k ≡ true → (y : LockString) → has (d .locks) k y ≡ has t k y

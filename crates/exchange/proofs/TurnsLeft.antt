@@ -19,7 +19,7 @@ use Rattle.master.specs.Answers.{answers, login-as, turn-was}
 use Rattle.master.specs.Polls.{stationAt, withCounts, afterTurn, pollRefusal, turnRefusal, dueNow, outNow, stationTurn, pollEffect}
 use Rattle.master.proofs.Keeps.{logout-out, RecordCase, same, by-login, by-logout, frame-record}
 use Rattle.master.proofs.PollLaws.{polled-below, polled-counts}
-use Rattle.master.proofs.PollKeeps.{vacant-bytes, turned-logged, turned-station}
+use Rattle.master.proofs.PollKeeps.{turned-logged, turned-station}
 use Rattle.exchange.specs.Runs.{Event, frame, turn, Run, start, _then_, effect, tables, answerIn, turnIn}
 use Rattle.exchange.specs.Following.{Follows, logs-in, others, polled, asks-lock, asks-unlock, asks-clear, sends, hears, sides, logout-refused}
 use Rattle.exchange.specs.Silence.{lastTurn}
@@ -27,6 +27,7 @@ use Rattle.exchange.specs.Story.{silent}
 use Rattle.exchange.proofs.Invariant.{run-good, invariant, begins}
 use Rattle.master.specs.Effects.{unless}
 use Rattle.who.specs.Records.{bytesOf}
+use Rattle.who.proofs.RecordLaws.{vacant-bytes}
 
 unfoldable pub leftTo : Run → ℕ → ℕ
 leftTo h k = turnsLeft (stationAt (tables h .records) k .misses) (stationAt (tables h .records) k .slow)

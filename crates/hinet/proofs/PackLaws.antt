@@ -2,14 +2,14 @@
 use Prim.Native.Nat.{ℕ, _%_, _≤_, _<_, _^_}
 use native.Mathlib.Omega.{arith}
 use mathlib.Core.Path.{_≡_, refl, sym, ap, _∙_}
-use mathlib.Core.Bool.{Bool, true, false, cond}
+use mathlib.Core.Bool.{Bool, true, false}
 use lib.Dec.{eqb}
 use borrow.Author.Tests.{eqb-false, ne-eqb}
 use mir.Val.{boolByte}
 use Rattle.rows.proofs.BoolLaws.{by-test}
 use Rattle.who.specs.Records.{flag}
 use Rattle.master.proofs.Outcomes.{no-answer}
-use Rattle.master.specs.Answers.{Told, refuses, answers, Answered, no-bytes, status-byte, assign-bytes, place-at, login-as, turn-was, frame-of}
+use Rattle.master.specs.Answers.{Told, refuses, answers, Answered, no-bytes, status-byte, assign-bytes, place-at, login-as, turn-was, frame-of, answersUnless}
 use Rattle.hinet.specs.Packing.{STATUS, ASSIGN, PLACE, LOGIN, TURN, WRITTEN, word, refusalIn, kindIn, bytesIn, toldIn, answeredIn, flagIn}
 
 -- a flag as a byte
@@ -112,15 +112,17 @@ refused-told a h r e ne =
     (told, e ∙ ap word told)
 
 -- the same for an entry that has one refusal, 0 for none, and else this answer
-module _ (k : ℕ) (small : k < 256) (a : Answered) (fits : Tellable (answers a)) (r : ℕ) (e : r ≡ word (cond (eqb k 0) (answers a) (refuses k))) where
-  pub choice-tells : toldIn r ≡ cond (eqb k 0) (answers a) (refuses k)
-  unfolding word
-  choice-tells = by-test (eqb k 0)
-      (λ y. ap toldIn e ∙ rw y (word-back (answers a) fits))
-      (λ n. ap toldIn e ∙ rw n (refusal-back k (omega (arith, eqb-false k 0 n))))
+module _ (k : ℕ) (small : k < 256) (a : Answered) (fits : Tellable (answers a)) (r : ℕ) (e : r ≡ word (answersUnless k a)) where
+  choice-fits : Tellable (answersUnless k a)
+  choice-fits = by-test (eqb k 0) (λ y. rw y fits) (λ n. rw n (omega (arith, eqb-false k 0 n)))
+
+  pub choice-tells : toldIn r ≡ answersUnless k a
+  choice-tells = ap toldIn e ∙ word-back (answersUnless k a) choice-fits
 
   pub refused-choice : (refusalIn r ≡ 0 → ⊥) → (r ≡ refusalIn r) × (r ≡ k) × (eqb k 0 ≡ false)
-  unfolding refusalIn word
-  refused-choice ne = by-test (eqb k 0)
-      (λ y. absurd (no-answer (sym (refusal-is r ne) ∙ ap toldIn (e ∙ rw y) ∙ word-back (answers a) fits)))
-      (λ n. let number : r ≡ k = e ∙ rw n in (omega arith, number, n))
+  unfolding word
+  refused-choice ne =
+      let told = refused-told (answersUnless k a) choice-fits r e ne in
+      by-test (eqb k 0)
+      (λ y. absurd (no-answer {a = a} (sym (told .0) ∙ rw y)))
+      (λ n. (told .1, e ∙ rw n, n))

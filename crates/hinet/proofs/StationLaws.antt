@@ -1,23 +1,22 @@
 -- The station's entries: the words of its steps and of the frame it sends, and what the C program can rely on.
 use Prim.Native.Nat.{ℕ, zero, suc, min, _<_}
 use native.Mathlib.Omega.{arith}
-use mathlib.Core.Path.{_≡_, refl, sym, ap, _∙_}
+use mathlib.Core.Path.{_≡_, refl, ap, _∙_}
 use mathlib.Core.Bool.{Bool, true, false, cond, not, _&&_}
 use mathlib.Core.List.{List}
 use lib.Dec.{eqb, ltb}
 use lib.ListN.{length}
 use borrow.Author.Tests.{ne-eqb, ltb-true, ltb-false}
 use Rattle.rows.proofs.BoolLaws.{by-test, by-eq}
-use Rattle.rows.specs.Outcomes.{Leaves}
 use Rattle.terms.specs.Strings.{legal}
 use Rattle.frames.specs.Table.{LOCK, UNLOCK, CLEAR}
 use Rattle.station.specs.State.{listOf, waitOf, isFull, codeIn, askedIn}
 use Rattle.station.specs.Good.{stateLength, goodState}
-use Rattle.station.specs.Asks.{freshState, waits, askRefusal, frameAwaited, sendRefusal, sentOf, bufferAfter}
+use Rattle.station.specs.Asks.{waits, askRefusal, frameAwaited, sendRefusal, sentOf, bufferAfter, StepLeaves, freshRefusal}
 use Rattle.station.specs.Replies.{fits, grants, carriesLength, adds, replyRefusal, Replies}
 use Rattle.station.proofs.Cases.{sent-short}
 use Rattle.hinet.specs.Packing.{word, refusalIn, toldIn}
-use Rattle.hinet.specs.StationEntries.{stepTold, Steps, freshRefusal, Freshly, Takes, sentTold, Sends}
+use Rattle.hinet.specs.StationEntries.{stepTold, Steps, Takes, sentTold, Sends}
 use Rattle.hinet.proofs.PackLaws.{choice-tells, refused-choice}
 use Rattle.hinet.proofs.TellLaws.{either}
 use Rattle.master.specs.Answers.{no-bytes, frame-of}
@@ -28,18 +27,9 @@ unfolding word stepTold
 step-word zero = refl
 step-word (suc k) = rw (ne-eqb (suc k) 0 (λ e. omega arith))
 
--- any two outcomes that a contract allows are equal
-pub steps-one : {k : ℕ} {after st st₁ st₂ : List ℕ} {r r′ : ℕ} → Steps k after st r st₁ → Steps k after st r′ st₂ → (r ≡ r′) × (st₁ ≡ st₂)
-steps-one a b = (a .answer ∙ sym (b .answer), a .left ∙ sym (b .left))
-
 -- the entries over what the crate station promises
-pub stepped : {k k′ r : ℕ} {after st st′ : List ℕ} → r ≡ word (stepTold k′) → k′ ≡ k → st′ ≡ cond (eqb k 0) after st → Steps k after st r st′
-stepped e same left = record { answer = e ∙ ap (λ k. word (stepTold k)) same; left = left }
-
-pub freshened : (st : List ℕ) {k r : ℕ} {st′ : List ℕ} → r ≡ word (stepTold k)
-    → Leaves (cond (eqb (length st) stateLength) 0 11) (cond (eqb (length st) stateLength) freshState st) k st′ → Freshly st r st′
-unfolding freshRefusal
-freshened st e done = stepped e (done .answer) (by-test (eqb (length st) stateLength) (λ y. done .left ∙ rw y) (λ n. done .left ∙ rw n))
+pub stepped : (k : ℕ) (after st : List ℕ) {k′ r : ℕ} {st′ : List ℕ} → r ≡ word (stepTold k′) → StepLeaves k after st k′ st′ → Steps k after st r st′
+stepped k after st e done = record { answer = e ∙ ap (λ k. word (stepTold k)) (done .answer); left = done .left }
 
 -- no request lists a reply above 82 hex, so that one which is too large for a byte may become the largest
 none-fits : (code n : ℕ) → 0x82 < n → fits code n ≡ false
@@ -59,12 +49,11 @@ unfolding replyRefusal
 reply-taken st n e done = by-test (ltb n 256)
     (λ y.
     let same : min n 255 ≡ n = omega (arith, ltb-true n 256 y) in
-    let taken = rw same at done in
-    stepped e (taken .answer) (taken .left))
+    stepped _ _ _ e (rw same at done))
     (λ m.
     let cut = none-fits (codeIn (waitOf st)) (min n 255) (omega (arith, ltb-false n 256 m)) in
     let large = none-fits (codeIn (waitOf st)) n (omega (arith, ltb-false n 256 m)) in
-    stepped e (done .answer ∙ rw (cut, large)) (done .left ∙ by-test (goodState st) (λ g. rw (g, cut, large)) (λ b. rw b)))
+    stepped _ _ _ e (record { answer = done .answer ∙ rw (cut, large); left = done .left ∙ by-test (goodState st) (λ g. rw (g, cut, large)) (λ b. rw b) }))
 
 -- every refusal is a byte
 pub fresh-small : (st : List ℕ) → freshRefusal st < 256
@@ -84,7 +73,7 @@ reply-small st n =
     (either (adds (listOf st) (waitOf st) n && isFull (listOf st)) 15 0 (omega arith) (omega arith))))
 
 -- a step: its word tells the refusal, and a refused one is its number alone and leaves the state as it was
-module _ {k : ℕ} (small : k < 256) {after st : List ℕ} {r : ℕ} {st′ : List ℕ} (done : Steps k after st r st′) where
+module _ (k : ℕ) (small : k < 256) (after st : List ℕ) {r : ℕ} {st′ : List ℕ} (done : Steps k after st r st′) where
   pub step-word-tells : toldIn r ≡ stepTold k
   unfolding stepTold
   step-word-tells = choice-tells k small no-bytes tt r (done .answer)

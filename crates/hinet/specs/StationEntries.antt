@@ -1,30 +1,24 @@
 -- What each of the station's entries returns and leaves. st is its state, b the buffer, n the reply.
 use Prim.Native.Nat.{ℕ}
-use mathlib.Core.Path.{_≡_}
 use mathlib.Core.Bool.{cond}
 use mathlib.Core.List.{List}
 use lib.Dec.{eqb}
 use lib.ListN.{length}
 use Rattle.rows.specs.Outcomes.{Leaves}
 use Rattle.terms.specs.declared.LockString.{LockString}
-use Rattle.master.specs.Answers.{Told, refuses, answers, no-bytes, frame-of}
+use Rattle.master.specs.Answers.{Told, no-bytes, frame-of, answersUnless}
 use Rattle.station.specs.declared.Sent.{Sent}
-use Rattle.station.specs.Good.{stateLength}
-use Rattle.station.specs.Asks.{freshState, askRefusal, afterLock, afterUnlock, afterClear, sentOf, bufferAfter}
+use Rattle.station.specs.Asks.{freshState, askRefusal, afterLock, afterUnlock, afterClear, sentOf, bufferAfter, freshRefusal}
 use Rattle.station.specs.Replies.{replyRefusal, afterReply}
 use Rattle.hinet.specs.Packing.{word}
 
 -- a step of the station has nothing to tell but its refusal, 0 for none
 unfoldable pub stepTold : ℕ → Told
-stepTold k = cond (eqb k 0) (answers no-bytes) (refuses k)
+stepTold k = answersUnless k no-bytes
 
 -- what a step gives and leaves: the word of its refusal, and the state after it or as it was
-pub record Steps (k : ℕ) (after st : List ℕ) (r : ℕ) (st′ : List ℕ) : Type 0 where
-  pub answer : r ≡ word (stepTold k)
-  pub left : st′ ≡ cond (eqb k 0) after st
-
-unfoldable pub freshRefusal : List ℕ → ℕ
-freshRefusal st = cond (eqb (length st) stateLength) 0 11
+abbrev pub Steps : ℕ → List ℕ → List ℕ → ℕ → List ℕ → Type 0
+Steps k after st = Leaves (word (stepTold k)) (cond (eqb k 0) after st)
 
 abbrev pub Freshly : List ℕ → ℕ → List ℕ → Type 0
 Freshly st = Steps (freshRefusal st) freshState st
@@ -44,7 +38,7 @@ Takes st n = Steps (replyRefusal st n) (afterReply st n) st
 
 -- a frame sent tells its length, 0 where nothing is awaited
 unfoldable pub sentTold : Sent → Told
-sentTold s = cond (eqb (s .refusal) 0) (answers (frame-of (s .length))) (refuses (s .refusal))
+sentTold s = answersUnless (s .refusal) (frame-of (s .length))
 
 abbrev pub Sends : List ℕ → List ℕ → ℕ → List ℕ → Type 0
 Sends st b = Leaves (word (sentTold (sentOf st (length b)))) (bufferAfter st b)

@@ -26,7 +26,7 @@ use Rattle.who.proofs.WhoLaws.{good-is}
 use Rattle.locks.specs.Good.{goodLocks}
 use Rattle.locks.specs.Table.{lockStatus, lockTable, unlockStatus, unlockTable, clearedTable}
 use Rattle.master.specs.Tables.{goodTables}
-use Rattle.master.specs.Answers.{Told, refuses, answers, Answered, no-bytes, status-byte, assign-bytes, place-at, login-as, turn-was, frame-of}
+use Rattle.master.specs.Answers.{refuses, answers, Answered, no-bytes, status-byte, login-as, place-at, assign-bytes}
 use Rattle.master.specs.Refusals.{ANYBODY, misplaced, placeRefusal, frameTests, frameRefusal, refusal}
 use Rattle.master.specs.Frames.{placeTold, rowAnswer, assignable, assignAnswer, numberGiven, loginEffect, effectOf, requestEffect, frameEffect}
 use Rattle.master.proofs.RefusalLaws.{Passed, passed, tests-stop, seat-in}
@@ -41,22 +41,27 @@ pub locks-good : (t w : List ℕ) → goodTables t w ≡ true → goodLocks (log
 unfolding goodTables
 locks-good t w good = and-right (goodRecords w) (goodLocks (loggedIn w) t) good
 
--- the number that the answer to a login gives; 0 for every other kind of answer
-unfoldable pub loginNumber : Told → ℕ
-loginNumber (refuses k) = 0
-loginNumber (answers no-bytes) = 0
-loginNumber (answers (status-byte s)) = 0
-loginNumber (answers (assign-bytes z p c v)) = 0
-loginNumber (answers (place-at v s)) = 0
-loginNumber (answers (login-as n f s)) = n
-loginNumber (answers (turn-was d o)) = 0
-loginNumber (answers (frame-of l)) = 0
+-- an answer that gives no number: it is none to a login, or one with number 0
+abbrev pub Numberless : Answered → Type 0
+Numberless a = (k : ℕ) (found : Bool) (serial : ℕ) → a ≡ login-as k found serial → k ≡ 0
+
+nothing-told : Numberless no-bytes
+nothing-told k found serial e = cc
+
+place-told : (v x : ℕ) → Numberless (place-at v x)
+place-told v x k found serial e = cc
+
+row-told : (z p c v : ℕ) → Numberless (assign-bytes z p c v)
+row-told z p c v k found serial e = cc
+
+none-given : (s : ℕ) → Numberless (login-as 0 false s)
+none-given s k found serial e = cc
 
 module _ (n : ℕ) (f s t w : List ℕ) where
   -- refused: nothing changes. Quiet: an answer and no change, and nobody is logged in. The others change a table
   pub data Deed : Effect (List ℕ) → Type 0 where
     refused : (k : ℕ) → (k ≡ 0 → ⊥) → Deed (telling (refuses k) t w)
-    quiet : (a : Answered) → loginNumber (answers a) ≡ 0 → Deed (telling (answers a) t w)
+    quiet : (a : Answered) → Numberless a → Deed (telling (answers a) t w)
     logged-in : n ≡ ANYBODY → (numberGiven w ≡ 0 → ⊥) → (name serial : List ℕ) (product : ℕ) (found : Bool) → length name ≡ 8 → length serial ≡ 4
         → Deed (telling (answers (login-as (numberGiven w) found (lowFirst serial))) t (afterLogin w (numberGiven w) (loggedInAs name serial product found)))
     locked : loggedIn w n ≡ true → (x : LockString) → length (x .bytes) ≡ 13 → Deed (telling (answers (status-byte (lockStatus t n x))) (lockTable t n x) w)
@@ -83,14 +88,14 @@ module _ (n : ℕ) (f s t w : List ℕ) where
       past false b x e = absurd (omega arith)
 
   place-done : (p : Placed) → Deed (telling (placeTold p) t w)
-  unfolding placeTold loginNumber
+  unfolding placeTold
   place-done p = by-eq (p .refusal) 0
-      (λ e. rw e (quiet _ refl))
+      (λ e. rw e (quiet _ (place-told _ _)))
       (λ ne. rw (ne-eqb (p .refusal) 0 ne) (refused (p .refusal) ne))
 
   assign-done : (q : Request) → Deed (telling (assignAnswer q s) t w)
-  unfolding assignAnswer rowAnswer loginNumber
-  assign-done q = by-test (assignable q s) (λ y. rw y (quiet _ refl)) (λ m. rw m (quiet _ refl))
+  unfolding assignAnswer rowAnswer
+  assign-done q = by-test (assignable q s) (λ y. rw y (quiet _ (row-told _ _ _ _))) (λ m. rw m (quiet _ (row-told _ _ _ _)))
 
   module _ (h : Heard) where
     sized : length w ≡ 1152
@@ -116,14 +121,14 @@ module _ (n : ℕ) (f s t w : List ℕ) where
         second false b q = q
 
     login-done : code f ≡ LOGIN → Deed (loginEffect (loginIn f) (getD f 19 0) s t w)
-    unfolding loginEffect loginIn frameLength lengthIn frameTable loginNumber
+    unfolding loginEffect loginIn frameLength lengthIn frameTable
     login-done e = by-eq (numberGiven w) 0
-        (λ z. rw z (quiet _ refl))
+        (λ z. rw z (quiet _ (none-given _)))
         (λ ne. rw (ne-eqb (numberGiven w) 0 ne) (logged-in (at-anybody e) ne _ _ _ _ (length-part f 1 8 (omega (arith, long LOGIN e))) (length-part f 15 4 (omega (arith, long LOGIN e)))))
 
     done : Code (code f) → Deed (requestEffect (requestIn f) n s t w)
-    unfolding requestEffect requestIn stringRequest stringAt namedIn loginIn plain effectOf frameLength lengthIn frameTable loginNumber
-    done (acknowledge e) = rw e (quiet no-bytes refl)
+    unfolding requestEffect requestIn stringRequest stringAt namedIn loginIn plain effectOf frameLength lengthIn frameTable
+    done (acknowledge e) = rw e (quiet no-bytes nothing-told)
     done (read e) = rw e (place-done _)
     done (write e) = rw e (place-done _)
     done (login e) = rw e (login-done e)

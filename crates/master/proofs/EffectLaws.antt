@@ -12,10 +12,6 @@ pub does-one : {A : Type 0} {e : Effect A} {a a′ : Told} {t t′ : List ℕ} {
 does-one x y = (x .answer ∙ sym (y .answer), x .locks ∙ sym (y .locks), x .records ∙ sym (y .records))
 
 module _ {A : Type 0} (k : ℕ) (t : List ℕ) (w : A) (done : Effect A) where
-  pub unless-done : k ≡ 0 → unless k t w done ≡ done
-  unfolding unless
-  unless-done z = rw z
-
   module _ (ne : k ≡ 0 → ⊥) where
     unless-refused : unless k t w done ≡ telling (refuses k) t w
     unfolding unless

@@ -8,4 +8,5 @@ pub mod PollLaws
 pub mod PollKeeps
 pub mod RowPollLaws
 pub mod Lent
+pub mod SlotCall
 pub mod RowTies

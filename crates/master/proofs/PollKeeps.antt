@@ -1,7 +1,7 @@
 -- What a poll turn does to good tables, as one view, and to everybody: tables stay good, all others keep records and locks.
 use Prim.Native.Nat.{ℕ, _<_}
 use native.Mathlib.Omega.{arith}
-use mathlib.Core.Path.{_≡_, refl, sym, ap, _∙_}
+use mathlib.Core.Path.{_≡_, refl, sym, ap, ap₂, _∙_}
 use mathlib.Core.Bool.{Bool, true, false}
 use mathlib.Core.List.{List, []}
 use lib.ListN.{length}
@@ -11,10 +11,10 @@ use Rattle.rows.proofs.RowLaws.{length-row, length-part, row-setRow}
 use Rattle.rows.specs.Rows.{row, setRow}
 use Rattle.terms.specs.declared.LockString.{LockString}
 use Rattle.who.specs.declared.Station.{Station}
-use Rattle.who.specs.Records.{bytesOf, stationOf, flag, nobody}
+use Rattle.who.specs.Records.{bytesOf, stationOf}
 use Rattle.who.specs.Good.{goodCounts, numbers}
 use Rattle.who.specs.Logins.{loggedIn, afterLogin, afterLogout}
-use Rattle.who.proofs.RecordLaws.{counts-is, length-bytesOf, station-back}
+use Rattle.who.proofs.RecordLaws.{counts-is, length-bytesOf, station-back, vacant-bytes}
 use Rattle.who.proofs.TurnLaws.{turn-good}
 use Rattle.who.proofs.WhoLaws.{good-is, logged-at, login-good, login-logged, login-other, logout-other}
 use Rattle.locks.specs.Good.{locks, goodLocks}
@@ -24,20 +24,14 @@ use Rattle.locks.proofs.Keeps.{login-keeps}
 use Rattle.master.specs.declared.Turned.{Turned}
 use Rattle.master.specs.declared.Turned.the-variants.{Refused, Turn}
 use Rattle.master.specs.Tables.{goodTables}
-use Rattle.master.specs.Answers.{Told, refuses, answers, no-bytes, status-byte, assign-bytes, place-at, login-as, turn-was, frame-of, turnTold}
+use Rattle.master.specs.Answers.{refuses, answers, turn-was, turnTold}
 use Rattle.master.specs.Polls.{stationAt, withCounts, afterTurn, pollRefusal, dueNow, outNow, stationTurn, pollEffect}
 use Rattle.master.proofs.Deeds.{records-good, locks-good}
 use Rattle.master.proofs.Keeps.{tables-are, logout-out, logout-tables, cleared-others}
 use Rattle.master.proofs.PollLaws.{seated, polled-below, polled-counts}
 use Rattle.master.specs.Effects.{Effect, telling, unless, Does}
 use Rattle.master.proofs.EffectLaws.{does-one, refused-does}
-use Rattle.rows.specs.Numbers.{lowBytes}
-use Rattle.who.specs.Row.{vacant}
-
--- a cleared record in bytes
-pub vacant-bytes : bytesOf vacant ≡ nobody
-unfolding bytesOf lowBytes flag
-vacant-bytes = refl
+use Rattle.master.proofs.Outcomes.{no-answer}
 
 module _ (n : ℕ) (heard : Bool) (t w : List ℕ) where
   -- refused: nothing changes. Turned: the counts of n change and nothing else. Dropped: n is logged out
@@ -136,24 +130,16 @@ module _ (n : ℕ) (heard : Bool) (t w : List ℕ) where
     pub poll-others-have : (m : ℕ) → (m ≡ n → ⊥) → (x : LockString) → has (pollEffect n heard t w .locks) m x ≡ has t m x
     poll-others-have = turn-others-have _ turn-deed
 
--- any two outcomes of a poll turn are equal
-turn-known : Told → Turned
-turn-known (refuses k) = Refused k
-turn-known (answers no-bytes) = Refused 0
-turn-known (answers (status-byte s)) = Refused 0
-turn-known (answers (assign-bytes z p c v)) = Refused 0
-turn-known (answers (place-at v s)) = Refused 0
-turn-known (answers (login-as n f s)) = Refused 0
-turn-known (answers (turn-was due out)) = Turn due out
-turn-known (answers (frame-of l)) = Refused 0
-
-turn-known-told : (a : Turned) → turn-known (turnTold a) ≡ a
-unfolding turn-known turnTold
-turn-known-told (Refused k) = refl
-turn-known-told (Turn due out) = refl
-
+-- two answers that tell the same are equal, and so are any two outcomes of a poll turn
 pub turn-told-one : (a b : Turned) → turnTold a ≡ turnTold b → a ≡ b
-turn-told-one a b e = sym (turn-known-told a) ∙ ap turn-known e ∙ turn-known-told b
+unfolding turnTold
+turn-told-one (Refused j) (Refused k) e = let number : j ≡ k = cc in ap Refused number
+turn-told-one (Refused j) (Turn due out) e = absurd (no-answer e)
+turn-told-one (Turn due out) (Refused k) e = absurd (no-answer (sym e))
+turn-told-one (Turn due out) (Turn due′ out′) e =
+    let same-due : due ≡ due′ = cc in
+    let same-out : out ≡ out′ = cc in
+    ap₂ Turn same-due same-out
 
 pub polls-one : {A : Type 0} {e : Effect A} {r r′ : Turned} {t₁ t₂ : List ℕ} {w₁ w₂ : A} → Does e (turnTold r) t₁ w₁ → Does e (turnTold r′) t₂ w₂ → (r ≡ r′) × (t₁ ≡ t₂) × (w₁ ≡ w₂)
 polls-one a b = let one = does-one a b in (turn-told-one _ _ (one .0), one .1, one .2)

@@ -50,6 +50,11 @@ one-holds false false false false false true h x z = refl
 one-holds false false false false false false true x z = refl
 one-holds false false false false false false false x z = absurd (z refl)
 
+-- the test of a number, by whether it is logged in
+pub unknown-is : (inside : ℕ → Bool) (n : ℕ) {b : Bool} → b ≡ inside n → unknown inside n ≡ not (eqb n ANYBODY || b)
+unfolding unknown
+unknown-is inside n e = rw e
+
 -- a frame that is not refused with 1 is not empty
 pub not-empty : (f : List ℕ) → (refusalOf f ≡ 1 → ⊥) → 0 < length f
 unfolding refusalOf

@@ -1,6 +1,7 @@
 -- What an entry tells, in 01's numbers: a refusal, or an answer of one kind with its values.
 use Prim.Native.Nat.{ℕ}
-use mathlib.Core.Bool.{Bool}
+use mathlib.Core.Bool.{Bool, cond}
+use lib.Dec.{eqb}
 use Rattle.master.specs.declared.Answer.{Answer}
 use Rattle.master.specs.declared.Answer.the-variants.{Refused, Nothing, Status, Assigned, At, LoggedIn}
 use Rattle.master.specs.declared.Turned.{Turned}
@@ -20,6 +21,10 @@ pub data Answered : Type 0 where
 pub data Told : Type 0 where
   refuses : ℕ → Told
   answers : Answered → Told
+
+-- refused with k; or, with 0 for none, answered with a
+abbrev pub answersUnless : ℕ → Answered → Told
+answersUnless k a = cond (eqb k 0) (answers a) (refuses k)
 
 -- what the answer to a frame tells
 unfoldable pub told : Answer → Told

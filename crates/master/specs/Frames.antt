@@ -17,14 +17,14 @@ use Rattle.site.specs.Places.{placedIn}
 use Rattle.who.specs.Good.{numbers}
 use Rattle.who.specs.Logins.{lowestNumber, loggedInAs, afterLogin, afterLogout}
 use Rattle.locks.specs.Table.{lockStatus, lockTable, unlockStatus, unlockTable, clearedTable}
-use Rattle.master.specs.Answers.{Told, refuses, answers, told, no-bytes, status-byte, assign-bytes, place-at, login-as}
+use Rattle.master.specs.Answers.{Told, answers, told, no-bytes, status-byte, assign-bytes, place-at, login-as, answersUnless}
 use Rattle.master.specs.declared.Answer.{Answer}
 use Rattle.master.specs.Refusals.{refusal}
 use Rattle.master.specs.Effects.{Effect, telling, unless, Does}
 
 -- read, write: the place. Its refusals 8 and 9 stand among the tests of a frame
 unfoldable pub placeTold : Placed → Told
-placeTold p = cond (eqb (p .refusal) 0) (answers (place-at (p .place .volume .0) (p .place .sector))) (refuses (p .refusal))
+placeTold p = answersUnless (p .refusal) (place-at (p .place .volume .0) (p .place .sector))
 
 -- login: the number given is the lowest free one from 1 to 63, or 0 where all 63 are in use
 unfoldable pub numberGiven : List ℕ → ℕ

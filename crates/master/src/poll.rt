@@ -11,26 +11,15 @@ ghost use lib.ListN.{length};
 ghost use Rattle.rows.specs.Numbers.{bitAt};
 ghost use Rattle.rows.specs.Outcomes.{Leaves};
 ghost use Rattle.who.specs.Good.{goodCounts, numbers};
-ghost use Rattle.master.specs.Refusals.{unknown};
 ghost use Rattle.master.specs.Polls.{withCounts};
 ghost use Rattle.locks.specs.Good.{goodLocks};
 ghost use Rattle.master.specs.Inner.{seatRefusal, early, stepRefusal, readAt, MakesStep, Lends, isTurn, writtenBack};
-
-// The number is nobody's, by the word of who is logged in.
-fn is_stranger(number: u32, word: u64) -> bool
-    ensures { λ r. ⌜ r ≡ unknown (bitAt word) number ⌝ }
-{
-    if number == refusals::ANYBODY {
-        return false;
-    }
-    !rows::is_bit(word, number as usize)
-}
 
 // 2 or 5, or 0.
 fn seat_refusal(number: u32, word: u64) -> u8
     ensures { λ r. ⌜ r ≡ seatRefusal true (bitAt word) number ⌝ }
 {
-    if is_stranger(number, word) {
+    if refusals::is_unknown(number, rows::is_bit(word, number as usize)) {
         return 2;
     }
     if number == 0 {

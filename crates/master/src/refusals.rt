@@ -1,21 +1,22 @@
 // The tests of a frame, 1 to 7, in their order.
 use frames::code;
 ghost use mathlib.Core.Path.{_≡_};
-ghost use Rattle.who.specs.Logins.{loggedIn};
+ghost use mathlib.Core.Bool.{not, _||_};
+ghost use lib.Dec.{eqb};
 ghost use Rattle.frames.specs.Reading.{refusalOf};
-ghost use Rattle.master.specs.Refusals.{unknown, misplaced, srcDiffers, frameTests};
+ghost use Rattle.master.specs.Refusals.{ANYBODY, misplaced, srcDiffers, frameTests};
 
 // Where a station without a number is polled.
 pub const ANYBODY: u32 = 253;
 
-// The number is nobody's: refusal 2.
-pub fn is_unknown(number: u32, records: &[u8]) -> bool
-    ensures { λ r. ⌜ r ≡ unknown (loggedIn (now (records .entry))) number ⌝ }
+// The number is nobody's: refusal 2. `inside` says whether it is logged in.
+pub fn is_unknown(number: u32, inside: bool) -> bool
+    ensures { λ r. ⌜ r ≡ not (eqb number ANYBODY || inside) ⌝ }
 {
     if number == ANYBODY {
         return false;
     }
-    !who::is_in(records, number as usize)
+    !inside
 }
 
 fn is_misplaced(number: u32, code: u8) -> bool
@@ -56,7 +57,7 @@ pub fn first_of(number: u32, read: u8, frame: &[u8], records: &[u8]) -> u8
     if read == 1 {
         return 1;
     }
-    if is_unknown(number, records) {
+    if is_unknown(number, who::is_in(records, number as usize)) {
         return 2;
     }
     if read == 3 {

@@ -36,14 +36,8 @@ nameAt f from w i = part f (from + w * i) 8
 unfoldable pub passwordAt : List ℕ → ℕ → ℕ → ℕ → List ℕ
 passwordAt f from w i = part f (from + w * i + 8) 6
 
-abbrev pub userName : List ℕ → ℕ → List ℕ
-userName f i = nameAt f usersFrom 16 i
-
 abbrev pub userPassword : List ℕ → ℕ → List ℕ
 userPassword f i = passwordAt f usersFrom 16 i
-
-abbrev pub partitionName : List ℕ → ℕ → List ℕ
-partitionName f i = nameAt f (partitionsFrom f) 24 i
 
 abbrev pub partitionPassword : List ℕ → ℕ → List ℕ
 partitionPassword f i = passwordAt f (partitionsFrom f) 24 i

@@ -6,9 +6,9 @@ use mathlib.Core.Bool.{Bool, true, false, cond, not, _&&_}
 use mathlib.Core.List.{List, [], _++_}
 use lib.Dec.{eqb, ltb}
 use lib.ListN.{length}
-use borrow.Author.Tests.{ne-eqb, le-leb, lt-leb, leb-false, le-ltb, not-true}
+use borrow.Author.Tests.{ne-eqb, le-leb, lt-leb, leb-false, le-ltb}
 use Rattle.rows.specs.Outcomes.{Leaves}
-use Rattle.rows.proofs.BoolLaws.{by-test, both, and-left, and-right}
+use Rattle.rows.proofs.BoolLaws.{by-test, both}
 use Rattle.terms.specs.Strings.{legal}
 use Rattle.frames.specs.Table.{CLEAR}
 use Rattle.frames.specs.declared.Request.{Request}
@@ -97,17 +97,6 @@ module _ (st : List ℕ) (b : ℕ) where
       none-holds true true true a e = absurd (omega arith)
       none-holds true false h a e = absurd (omega arith)
       none-holds false f h a e = absurd (omega arith)
-
-  pub is-taken : Taken st b → replyRefusal st b ≡ 0
-  unfolding replyRefusal isFull
-  is-taken t =
-      let c = carriesLength (codeIn (waitOf st)) in
-      let k = legal (askedIn (waitOf st)) in
-      rw (t .good, t .fitting) (by-test (grants b && (c && not k))
-      (λ y.
-      let y₁ = and-right (grants b) (c && not k) y in
-      both (t .lawful (and-left (grants b) (c && not k) y) (and-left c (not k) y₁)) (not-true k (and-right c (not k) y₁)))
-      (λ n. rw n (by-test (adds (listOf st) (waitOf st) b) (λ a. rw (a, lt-leb (placeCount (listOf st)) (listed (listOf st)) (t .room a))) (λ a. rw a))))
 
 -- sending: the state is bad, nothing is awaited, or the frame of a request is written
 module _ (st b : List ℕ) where

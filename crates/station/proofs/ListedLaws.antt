@@ -4,14 +4,13 @@ use native.Mathlib.Omega.{arith}
 use mathlib.Core.Path.{_≡_, refl, sym, ap, _∙_}
 use mathlib.Core.Bool.{true, false, not, _&&_, _||_}
 use mathlib.Core.List.{List}
-use lib.Dec.{ltb}
 use lib.ListN.{length, replicate, length-replicate}
-use borrow.Author.Tests.{ltb-true, ltb-false, not-true}
+use borrow.Author.Tests.{not-true}
 use Rattle.rows.specs.Words.{any}
 use Rattle.rows.specs.Rows.{part, row}
 use Rattle.rows.proofs.BoolLaws.{by-test, by-eq, both, and-left, and-right, and-both, refuted, iff}
 use Rattle.rows.proofs.BuildLaws.{take-zeros, drop-zeros}
-use Rattle.rows.proofs.IndexLaws.{any-at, none-from, first-found, first-none, found-if, first-least, any-same, any-set}
+use Rattle.rows.proofs.IndexLaws.{any-at, none-from, first-found, first-none, first-least, any-same, any-set}
 use Rattle.terms.specs.declared.LockString.{LockString}
 use Rattle.terms.specs.Strings.{legal, sameString}
 use Rattle.terms.specs.Tables.{isFree, holds, rowIn, rowFree, rowHolds}
@@ -64,14 +63,6 @@ module _ {n : ℕ} {l : List ℕ} (g : Good n l) where
   listed-inside = by-test (any (unused l) (placeCount l))
       (λ y. omega (arith, first-found (unused l) (placeCount l) y .0, g .sized))
       (λ f. omega (arith, first-none (unused l) (placeCount l) f, g .sized))
-
-  pub used-below : (i : ℕ) → i < n → unused l i ≡ false → i < listed l
-  used-below i b u = by-test (ltb i (listed l)) (λ y. ltb-true i (listed l) y) (λ m.
-      let past : listed l ≤ i = ltb-false i (listed l) m in
-      both (g .used-first (listed l) i (end-unused (omega arith)) past b) u)
-    where
-      end-unused : listed l < n → unused l (listed l) ≡ true
-      end-unused h = unfold listed in first-found (unused l) (placeCount l) (found-if (unused l) (placeCount l) (unfold listed in counted h)) .1
 
   -- each of them holds a string that is listed, and no two the same
   own : (i : ℕ) → i < listed l → listedAt l (placeString (row 14 l i)) i ≡ true

@@ -1,10 +1,10 @@
 -- What a station asks, and the frame it then sends until a reply comes.
 use Prim.Native.Nat.{ℕ, _*_}
-use mathlib.Core.Path.{_≡_}
 use mathlib.Core.Bool.{Bool, cond, not, _&&_}
 use mathlib.Core.List.{List, [], _∷_, _++_}
 use lib.Dec.{eqb, ltb}
 use lib.ListN.{length, replicate}
+use Rattle.rows.specs.Outcomes.{Leaves}
 use Rattle.rows.specs.Rows.{over}
 use Rattle.terms.specs.declared.LockString.{LockString}
 use Rattle.terms.specs.Strings.{stringBytes, legal}
@@ -13,7 +13,7 @@ use Rattle.frames.specs.declared.Command.the-variants.{Lock, Unlock, Clear}
 use Rattle.frames.specs.Table.{LOCK, UNLOCK, CLEAR}
 use Rattle.station.specs.declared.Sent.{Sent}
 use Rattle.station.specs.State.{listOf, waitOf, isListed, placeOf, struckAt, codeIn, nothing}
-use Rattle.station.specs.Good.{limit, goodState}
+use Rattle.station.specs.Good.{limit, stateLength, goodState}
 
 -- a reply is awaited
 unfoldable pub waits : List ℕ → Bool
@@ -44,14 +44,19 @@ afterUnlock st x = struck (listOf st) x ++ awaited UNLOCK x
 unfoldable pub afterClear : List ℕ → List ℕ
 afterClear st = replicate (length (listOf st)) 0 ++ awaitedClear
 
--- what an ask gives and leaves: 0 and the state after it, or the refusal and the state as it was
-pub record Asks (st after : List ℕ) (r : ℕ) (st′ : List ℕ) : Type 0 where
-  pub answer : r ≡ askRefusal st
-  pub left : st′ ≡ cond (eqb (askRefusal st) 0) after st
+-- what a step gives and leaves: 0 and the state after it, or its refusal k and the state as it was
+abbrev pub StepLeaves : ℕ → List ℕ → List ℕ → ℕ → List ℕ → Type 0
+StepLeaves k after st = Leaves k (cond (eqb k 0) after st)
 
--- fresh, and at each login: an empty list and no reply awaited
+abbrev pub Asks : List ℕ → List ℕ → ℕ → List ℕ → Type 0
+Asks st after = StepLeaves (askRefusal st) after st
+
+-- fresh, and at each login: an empty list and no reply awaited; 11 for another size
 unfoldable pub freshState : List ℕ
 freshState = replicate (14 * limit) 0 ++ nothing
+
+unfoldable pub freshRefusal : List ℕ → ℕ
+freshRefusal st = cond (eqb (length st) stateLength) 0 11
 
 -- the command with this code
 unfoldable pub commandFor : ℕ → Command

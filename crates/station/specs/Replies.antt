@@ -1,12 +1,12 @@
 -- What a reply does.
 use Prim.Native.Nat.{ℕ}
-use mathlib.Core.Path.{_≡_}
 use mathlib.Core.Bool.{Bool, cond, not, _&&_, _||_}
 use mathlib.Core.List.{List, _++_}
 use lib.Dec.{eqb}
 use Rattle.terms.specs.Strings.{legal}
 use Rattle.frames.specs.Table.{LOCK, UNLOCK, CLEAR}
 use Rattle.station.specs.State.{listOf, waitOf, isListed, isFull, added, codeIn, askedIn, nothing}
+use Rattle.station.specs.Asks.{StepLeaves}
 use Rattle.station.specs.Good.{goodState}
 
 -- the replies listed for a request: lock 00, 81, 01, 02 and 82, unlock 00 and 02, clear 00
@@ -41,6 +41,6 @@ replyRefusal st b =
 unfoldable pub afterReply : List ℕ → ℕ → List ℕ
 afterReply st b = cond (adds (listOf st) (waitOf st) b) (added (listOf st) (askedIn (waitOf st))) (listOf st) ++ nothing
 
-pub record Replies (st : List ℕ) (b r : ℕ) (st′ : List ℕ) : Type 0 where
-  pub answer : r ≡ replyRefusal st b
-  pub left : st′ ≡ cond (eqb (replyRefusal st b) 0) (afterReply st b) st
+-- what a reply gives and leaves
+abbrev pub Replies : List ℕ → ℕ → ℕ → List ℕ → Type 0
+Replies st b = StepLeaves (replyRefusal st b) (afterReply st b) st

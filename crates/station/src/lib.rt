@@ -9,7 +9,7 @@ use frames::code;
 use terms::LockString;
 use terms::table;
 ghost use mathlib.Core.Path.{_≡_};
-ghost use mathlib.Core.Bool.{cond, not, _&&_};
+ghost use mathlib.Core.Bool.{not, _&&_};
 ghost use mathlib.Core.List.{_++_};
 ghost use lib.Dec.{eqb};
 ghost use Prim.Native.Nat.{_≤_};
@@ -18,8 +18,8 @@ ghost use Rattle.rows.specs.Outcomes.{Gives, Leaves};
 ghost use Rattle.terms.specs.Strings.{legal};
 ghost use Rattle.frames.specs.Table.{LOCK};
 ghost use Rattle.station.specs.State.{listOf, waitOf, isListed, askedIn, nothing};
-ghost use Rattle.station.specs.Good.{stateLength, goodState};
-ghost use Rattle.station.specs.Asks.{askRefusal, awaited, afterLock, afterUnlock, afterClear, Asks, freshState, commandFor, sentOf, bufferAfter};
+ghost use Rattle.station.specs.Good.{goodState};
+ghost use Rattle.station.specs.Asks.{askRefusal, awaited, afterLock, afterUnlock, afterClear, StepLeaves, Asks, freshState, freshRefusal, commandFor, sentOf, bufferAfter};
 ghost use Rattle.station.specs.Replies.{fits, grants, carriesLength, Replies};
 
 // How many locks a station may hold, the bytes of its state then, and those of the frame awaited, which come last.
@@ -54,7 +54,7 @@ pub fn is_good(state: &[u8]) -> bool
 
 // Empties the list and awaits nothing: 11 for another size.
 pub fn fresh(state: &mut [u8]) -> u8
-    ensures { λ r. ⌜ Leaves (cond (eqb (length (now (state .entry))) stateLength) 0 11) (cond (eqb (length (now (state .entry))) stateLength) freshState (now (state .entry))) r (now (state .exit)) ⌝ }
+    ensures { λ r. ⌜ StepLeaves (freshRefusal (now (state .entry))) freshState (now (state .entry)) r (now (state .exit)) ⌝ }
 {
     if state.len() != BYTES {
         return 11;

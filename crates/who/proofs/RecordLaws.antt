@@ -17,6 +17,7 @@ use Rattle.rows.specs.Numbers.{lowFirst, lowBytes}
 use Rattle.who.specs.declared.Station.{Station}
 use Rattle.who.specs.Records.{flag, bytesOf, stationOf, flagged, nobody, localUser}
 use Rattle.who.specs.Good.{goodCounts, plain, goodStation}
+use Rattle.who.specs.Row.{vacant}
 
 -- misses and slow turns in range
 pub record Counts (misses slow : ℕ) : Type 0 where
@@ -207,3 +208,8 @@ module _ (r : List ℕ) (full : length r ≡ 18) where
         part-back r 1 2 bytes (omega arith),
       )
       laid
+
+-- a cleared record, as a struct and in bytes
+pub vacant-bytes : bytesOf vacant ≡ nobody
+unfolding bytesOf lowBytes flag
+vacant-bytes = refl

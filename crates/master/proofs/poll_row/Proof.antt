@@ -73,6 +73,7 @@ use Rattle.master.proofs.Turned as P
 use Rattle.master.proofs.Turned.Laws as P′
 use Rattle.master.proofs.Step as U
 use Rattle.master.proofs.Step.Laws as U′
+use Rattle.master.proofs.SlotCall.{SlotOf, slot-of, to-slot, goes-slot}
 use Rattle.master.proofs.poll.slot_of as slot
 use Rattle.master.proofs.poll.slot_of.Symbol as slot-def
 use Rattle.master.proofs.poll.slot_of.Symbol.{name as #master·slot-of}
@@ -128,21 +129,15 @@ abbrev lentTy : Ty
 lentTy = tyRef erased mut (tyInt w8)
 
 module _ {M : Type 1} (𝓤 : URA M) (H : Heap 𝓤) (A : Atoms 𝓤) (mem : Memory → SProp 𝓤) (run : Routine → Fun 𝓤) where
-  -- the contracts that the proof cites, and of the first two the clause alone: there is no last value
+  -- the contracts that the proof cites, and of the first the clause alone: there is no last value
   abbrev Call : Contract 𝓤
   Call = tripleOf 𝓤 H A roll.signature (roll.spec 𝓤 H A mem run)
-
-  abbrev Slot : Contract 𝓤
-  Slot = tripleOf 𝓤 H A slot.signature (slot.spec 𝓤 H A mem run)
 
   abbrev One : Contract 𝓤
   One = tripleOf 𝓤 H A one.signature (one.spec 𝓤 H A mem run)
 
   call-of : (κ : Lft) (x : RefT (List Station)) (r : Roll) → ent 𝓤 (ensured 𝓤 H A roll.ended (roll.clauses 𝓤 H A mem run) (κ, tt) (x, tt) tt r) (fact 𝓤 (Gives (rollOf (x .now)) r))
   call-of κ x r = exE 𝓤 _ (λ ws. snd∗ 𝓤 (sem 𝓤 H A (lasts roll.ended (κ, tt) (x, tt) ws)) (fact 𝓤 (Gives (rollOf (x .now)) r)))
-
-  slot-of : (m r : ℕ) → ent 𝓤 (ensured 𝓤 H A slot.ended (slot.clauses 𝓤 H A mem run) tt (m, tt) tt r) (fact 𝓤 (r ≡ readAt m))
-  slot-of m r = exE 𝓤 _ (λ ws. snd∗ 𝓤 (sem 𝓤 H A (lasts slot.ended tt (m, tt) ws)) (fact 𝓤 (r ≡ readAt m)))
 
 module _ {M : Type 1} (𝓤 : URA M) (H : Heap 𝓤) (A : Atoms 𝓤) (W : Given 𝓤 H A) (mem : Memory → SProp 𝓤) (run : Routine → Fun 𝓤) (κ κ₂ : Lft) (q q₂ : Share) (b o : ℕ) (γ : GName) (ys : List Station) (b₂ o₂ : ℕ) (γ₂ : GName) (ts : List ℕ) (m : ℕ) (y : Bool) where
   -- the row under the name δ, and the locks
@@ -220,12 +215,6 @@ module _ {M : Type 1} (𝓤 : URA M) (H : Heap 𝓤) (A : Atoms 𝓤) (W : Given
     goes-call : ent 𝓤 (sep 𝓤 (sep 𝓤 (A .lft α fullShare) (sem 𝓤 H A ftrue)) (sem 𝓤 H A (ShrSlice (named 0) α R .own (x γ₁ ys) (s ∷ [])))) (Call 𝓤 H A mem run .pre to-call)
     goes-call = qed W ((‵ (flft α fullShare) ⊛ ‵ ftrue) ∷ ‵ (ShrSlice (named 0) α R .own (x γ₁ ys) (s ∷ [])) ∷ []) ∵ nothing ! $ move ! (2 ∷ 0 ∷ []) $ fjoin ! $ move ! (1 ∷ 0 ∷ []) $ join ! $ nothing ! $ move ! (1 ∷ 0 ∷ []) $ frame ! $ done !
 
-  abbrev to-slot : Slot 𝓤 H A mem run .Ghost
-  to-slot = ((tt, tt, tt, (m, tt), (vint w32 m ∷ [], tt)), tt)
-
-  goes-slot : m < 2 ^ 32 → ent 𝓤 (emp 𝓤) (Slot 𝓤 H A mem run .pre to-slot)
-  goes-slot fits = qed W [] ∵ nothing ! $ owned ! u32 (Is u32) (uint-makes 𝓤 H A W w32) m _ (refl, fits) $ join ! $ nothing ! $ join ! $ nothing ! $ move ! (1 ∷ 0 ∷ []) $ frame ! $ done !
-
   abbrev to-one : One 𝓤 H A mem run .Ghost
   to-one = (((κ₂, tt), (q₂, tt), tt, (elem, (rolled .word, (m, (y, (x₂, tt))))), (mach elem ∷ [], (vint w64 (rolled .word) ∷ [], (vint w32 m ∷ [], (vbool y ∷ [], (s₂ ∷ [], tt)))))), tt)
 
@@ -236,7 +225,7 @@ module _ {M : Type 1} (𝓤 : URA M) (H : Heap 𝓤) (A : Atoms 𝓤) (W : Given
       nothing ! $ move ! (1 ∷ 0 ∷ []) $ fjoin ! $ owned ! bool (Is bool) (bool-makes 𝓤 H A W) y _ refl $ fjoin ! $ owned ! u32 (Is u32) (uint-makes 𝓤 H A W w32) m _ (refl, fits) $ fjoin ! $
       owned ! u64 (Is u64) (uint-makes 𝓤 H A W w64) (rolled .word) _ (LL.owed O.the-type O′.the-laws rolled _ is-o .1 .0) $ fjoin ! $ owned ! R (Is R) (LL.makes T.the-type T′.the-plain 𝓤 H A) elem _ is $ fjoin ! $ done !
 
-  module _ (C : Calls 𝓤 H) (Λ : Loops 𝓤 H) (fm : FmC 𝓤 H (W .laws) C) (known-call : Triple 𝓤 (C #who·roll-call) (Call 𝓤 H A mem run)) (known-slot : Triple 𝓤 (C #master·slot-of) (Slot 𝓤 H A mem run)) (known-one : Triple 𝓤 (C #master·poll-record) (One 𝓤 H A mem run)) (room : Room R (length ys)) (room₂ : Room u8 (length ts)) (fits : m < 2 ^ 32) where
+  module _ (C : Calls 𝓤 H) (Λ : Loops 𝓤 H) (fm : FmC 𝓤 H (W .laws) C) (known-call : Triple 𝓤 (C #who·roll-call) (Call 𝓤 H A mem run)) (known-slot : Triple 𝓤 (C #master·slot-of) (SlotOf 𝓤 H A mem run)) (known-one : Triple 𝓤 (C #master·poll-record) (One 𝓤 H A mem run)) (room : Room R (length ys)) (room₂ : Room u8 (length ts)) (fits : m < 2 ^ 32) where
     module _ (l₀ l₁ l₂ l₃ l₄ l₅ l₆ l₇ l₈ l₉ l₁₀ l₁₁ l₁₂ l₁₃ l₁₄ l₁₅ l₁₆ : ℕ) where
       abbrev En : Env 𝓤 H
       En = (P′.mir, l₀) ∷ (rowTy, l₁) ∷ (locksTy, l₂) ∷ (tyInt w32, l₃) ∷ (tyBool, l₄) ∷ (O′.mir, l₅) ∷ (word, l₆) ∷ (U′.mir, l₇) ∷ (seenTy, l₈) ∷ (sliceTy seenTy, l₉) ∷ (tyBool, l₁₀) ∷ (word, l₁₁) ∷ (tyPtr, l₁₂) ∷ (T′.mir, l₁₃) ∷ (lentTy, l₁₄) ∷ (sliceTy lentTy, l₁₅) ∷ (tyPtr, l₁₆) ∷ []
@@ -270,8 +259,8 @@ module _ {M : Type 1} (𝓤 : URA M) (H : Heap 𝓤) (A : Atoms 𝓤) (W : Given
       goes-on good is-o =
           let within : k < length ys = subst (λ (n : ℕ). k < n) (sym (good-is ys good .sized)) (slot-below m) in
           -- `slot_of`
-          use0 W (raw (Slot 𝓤 H A mem run .pre to-slot)) (goes-slot fits) $
-          calls-at ! fm (Slot 𝓤 H A mem run) known-slot to-slot (and-then ! (load ! (from ! (stop !)) (look ! 32 refl)) (no-more !)) (λ w₁.
+          use0 W (raw (SlotOf 𝓤 H A mem run .pre (to-slot 𝓤 H A mem run m))) (goes-slot 𝓤 H A mem run W m fits) $
+          calls-at ! fm (SlotOf 𝓤 H A mem run) known-slot (to-slot 𝓤 H A mem run m) (and-then ! (load ! (from ! (stop !)) (look ! 32 refl)) (no-more !)) (λ w₁.
           use1 W (later (some (λ (r : ℕ). (‵ ftrue ⊛ ‵ (usize .own r (w₁ ∷ []))) ⊛ raw (ensured 𝓤 H A slot.ended (slot.clauses 𝓤 H A mem run) tt (m, tt) tt r)))) (id⊢ 𝓤 _) $ await ! tt $ pick ! (λ r₁.
           split ! $ move ! (1 ∷ []) $ use1 W (raw (fact 𝓤 (r₁ ≡ k))) (slot-of 𝓤 H A mem run m r₁) $ heard ! (r₁ ≡ k) (λ e₁. split ! $ drop ! $
           rewrite ! 0 (λ (n : ℕ). ‵ (usize .own n (w₁ ∷ []))) e₁ refl $ peeks ! usize (Is usize) (shows 𝓤 H A usize) k (w₁ ∷ []) (λ is₁. drop ! $
@@ -344,7 +333,7 @@ module _ {M : Type 1} (𝓤 : URA M) (H : Heap 𝓤) (A : Atoms 𝓤) (W : Given
         forget ! 19 refl $ forget ! 21 refl $ judges l₀ l₁ l₂ l₃ l₄ l₅ l₆ l₇ l₈ l₉ l₁₀ l₁₁ l₁₂ l₁₃ l₁₄ l₁₅ l₁₆ (subst (Is O.the-row rolled) (LL.tells O.the-type O′.the-laws rolled _ is₀) is₀))))))))))))))))))))))))
 
 module _ {M : Type 1} (𝓤 : URA M) (H : Heap 𝓤) (A : Atoms 𝓤) (W : Given 𝓤 H A) (mem : Memory → SProp 𝓤) (run : Routine → Fun 𝓤) where
-  poll-walks : (C : Calls 𝓤 H) (Λ : Loops 𝓤 H) → FmC 𝓤 H (W .laws) C → Triple 𝓤 (C #who·roll-call) (Call 𝓤 H A mem run) → Triple 𝓤 (C #master·slot-of) (Slot 𝓤 H A mem run) → Triple 𝓤 (C #master·poll-record) (One 𝓤 H A mem run)
+  poll-walks : (C : Calls 𝓤 H) (Λ : Loops 𝓤 H) → FmC 𝓤 H (W .laws) C → Triple 𝓤 (C #who·roll-call) (Call 𝓤 H A mem run) → Triple 𝓤 (C #master·slot-of) (SlotOf 𝓤 H A mem run) → Triple 𝓤 (C #master·poll-record) (One 𝓤 H A mem run)
       → Walks 𝓤 H A poll.ended stayed (WpFn 𝓤 H C Λ code.function) (poll.clauses 𝓤 H A mem run)
   poll-walks C Λ fm known-call known-slot known-one = walked 𝓤 H A poll.ended stayed (poll.clauses 𝓤 H A mem run) (WpFn 𝓤 H C Λ code.function)
       (λ κs. (slice-vals, (slice-vals, (uint-vals w32, (bool-vals, tt))))) (λ κs. (mut-slice-tells (named 0) (κs .0) R, (mut-slice-tells (named 1) (κs .1 .0) u8, (uint-tells w32, (bool-tells, tt)))))
@@ -353,7 +342,7 @@ module _ {M : Type 1} (𝓤 : URA M) (H : Heap 𝓤) (A : Atoms 𝓤) (W : Given
       C Λ fm known-call known-slot known-one (are .0 .0 .1) (are .1 .0 .0 .1) (are .1 .1 .0 .1)))
 
 poll-meets : {M : Type 1} (𝓤 : URA M) (H : Heap 𝓤) (A : Atoms 𝓤) → Given 𝓤 H A → (mem : Memory → SProp 𝓤) (run : Routine → Fun 𝓤) (𝓣 : Tables 𝓤 H)
-    → Triple 𝓤 (𝓣 .C #who·roll-call) (Call 𝓤 H A mem run) → Triple 𝓤 (𝓣 .C #master·slot-of) (Slot 𝓤 H A mem run) → Triple 𝓤 (𝓣 .C #master·poll-record) (One 𝓤 H A mem run)
+    → Triple 𝓤 (𝓣 .C #who·roll-call) (Call 𝓤 H A mem run) → Triple 𝓤 (𝓣 .C #master·slot-of) (SlotOf 𝓤 H A mem run) → Triple 𝓤 (𝓣 .C #master·poll-record) (One 𝓤 H A mem run)
     → Meets 𝓤 H A poll.signature (WpFn 𝓤 H (𝓣 .C) (𝓣 .Λ) code.function) (poll.spec 𝓤 H A mem run)
 poll-meets 𝓤 H A W mem run 𝓣 known-call known-slot known-one =
     walk-meets 𝓤 H A poll.ended stayed W (goes-slice 𝓤 H A W 2 0 tt (plain (λ _. R)), (goes-gave-slice 𝓤 H A W 2 1 tt (plain (λ _. u8)), (goes-dropped 𝓤 H A W 2 (plain (λ _. u32)) yes (λ κs x f. refl), (goes-dropped 𝓤 H A W 2 (plain (λ _. bool)) yes (λ κs x f. refl), tt)))) (poll.clauses 𝓤 H A mem run)
@@ -366,5 +355,5 @@ poll-row-spec 𝓤 H 𝓜 𝓖 𝓡 =
     (tables 𝓤 H 𝓜 𝓡 code.env .C) (tables 𝓤 H 𝓜 𝓡 code.env .Λ) #master·poll-row code.function (code.unfolded 𝓤 H 𝓜 𝓡)
     (poll-meets 𝓤 H (𝓖 .A) (givenOf 𝓤 H 𝓜 𝓖) (𝓜 .mem) (𝓡 .run) (tablesOf 𝓤 H 𝓜 (tables 𝓤 H 𝓜 𝓡 code.env))
     (cited 𝓤 H (Call 𝓤 H (𝓖 .A) (𝓜 .mem) (𝓡 .run)) 𝓜 𝓡 code.env #who·roll-call roll-def.routine code.calls-who·lent·roll-call (roll-thm.met 𝓤 H 𝓜 𝓖 𝓡))
-    (cited 𝓤 H (Slot 𝓤 H (𝓖 .A) (𝓜 .mem) (𝓡 .run)) 𝓜 𝓡 code.env #master·slot-of slot-def.routine code.calls-master·poll·slot-of (slot-thm.met 𝓤 H 𝓜 𝓖 𝓡))
+    (cited 𝓤 H (SlotOf 𝓤 H (𝓖 .A) (𝓜 .mem) (𝓡 .run)) 𝓜 𝓡 code.env #master·slot-of slot-def.routine code.calls-master·poll·slot-of (slot-thm.met 𝓤 H 𝓜 𝓖 𝓡))
     (cited 𝓤 H (One 𝓤 H (𝓖 .A) (𝓜 .mem) (𝓡 .run)) 𝓜 𝓡 code.env #master·poll-record one-def.routine code.calls-master·poll·poll-record (one-thm.met 𝓤 H 𝓜 𝓖 𝓡)))

@@ -3,16 +3,17 @@ use mathlib.Core.Path.{sym, _∙_}
 use borrow.Author.Tests.{eq-eqb, ne-eqb}
 use lib.ListN.{replicate-append-replicate}
 use Rattle.rows.proofs.RowLaws.{filled}
-use Rattle.station.specs.Asks.{freshState}
+use Rattle.station.specs.Asks.{freshState, freshRefusal}
 use borrow.Author.Needs.{needs}
 use Rattle.station.proofs.fresh.Statement.{statement}
 use Rattle.station.proofs.fresh.Tie as tie
 
 returns : tie.Need-returns
+unfolding freshRefusal
 returns c = let other = ne-eqb _ _ (c .if1 .taken) in record { answer = rw other; left = rw other }
 
 returns-2 : tie.Need-returns-2
-unfolding freshState
+unfolding freshState freshRefusal
 returns-2 c = let sized = c .before .before .before .before .before .if1 .left in
     record {
       answer = rw (eq-eqb _ _ sized);

@@ -4,7 +4,7 @@ use Rattle.hinet.proofs.station_end.hinet_station_clear.Statement.{stat
 use Rattle.hinet.proofs.station_end.hinet_station_clear.Tie as tie
 
 returns : tie.Need-returns
-returns c = let asked = c .before .before .before .ask-clear .ensures in stepped (c .pack-step .ensures) (asked .answer) (asked .left)
+returns c = stepped _ _ _ (c .pack-step .ensures) (c .before .before .before .ask-clear .ensures)
 
 pub hinet-station-clear-spec : {M : Type 1} → statement M
 hinet-station-clear-spec =

@@ -1,10 +1,10 @@
-use Rattle.hinet.proofs.StationLaws.{freshened}
+use Rattle.hinet.proofs.StationLaws.{stepped}
 use borrow.Author.Needs.{needs}
 use Rattle.hinet.proofs.station_end.hinet_station_fresh.Statement.{statement}
 use Rattle.hinet.proofs.station_end.hinet_station_fresh.Tie as tie
 
 returns : tie.Need-returns
-returns c = freshened _ (c .pack-step .ensures) (c .before .before .before .fresh .ensures)
+returns c = stepped _ _ _ (c .pack-step .ensures) (c .before .before .before .fresh .ensures)
 
 pub hinet-station-fresh-spec : {M : Type 1} → statement M
 hinet-station-fresh-spec =

@@ -5,7 +5,7 @@ use Rattle.hinet.proofs.station_end.hinet_station_unlock.Statement.{sta
 use Rattle.hinet.proofs.station_end.hinet_station_unlock.Tie as tie
 
 returns : tie.Need-returns
-returns c = let asked = c .before .before .before .ask-unlock .ensures in stepped (c .pack-step .ensures) (asked .answer) (asked .left ∙ rw (c .before .before .before .before .string-of .ensures))
+returns c = let asked = c .before .before .before .ask-unlock .ensures in stepped _ _ _ (c .pack-step .ensures) (record { answer = asked .answer; left = asked .left ∙ rw (c .before .before .before .before .string-of .ensures) })
 
 pub hinet-station-unlock-spec : {M : Type 1} → statement M
 hinet-station-unlock-spec =

@@ -84,6 +84,7 @@ use Rattle.master.proofs.poll_row as turn
 use Rattle.master.proofs.poll_row.Symbol as turn-def
 use Rattle.master.proofs.poll_row.Symbol.{name as #master·poll-row}
 use Rattle.master.proofs.poll_row.Met as turn-thm
+use Rattle.master.proofs.SlotCall.{SlotOf, slot-of, to-slot, goes-slot}
 use Rattle.master.proofs.poll.slot_of as slot
 use Rattle.master.proofs.poll.slot_of.Symbol as slot-def
 use Rattle.master.proofs.poll.slot_of.Symbol.{name as #master·slot-of}
@@ -192,7 +193,7 @@ closer-wf : WellFounded Closer
 closer-wf = InvImage·wf (λ (i : Upto). numbers - i .0) (Nat·lt-wfRel .wf)
 
 module _ {M : Type 1} (𝓤 : URA M) (H : Heap 𝓤) (A : Atoms 𝓤) (mem : Memory → SProp 𝓤) (run : Routine → Fun 𝓤) where
-  -- the contracts that the proof cites, and of the second and the last the clause alone: there is no last value
+  -- the contracts that the proof cites, and of the second the clause alone: there is no last value
   abbrev Blank : Contract 𝓤
   Blank = tripleOf 𝓤 H A blank.signature (blank.spec 𝓤 H A mem run)
 
@@ -202,14 +203,8 @@ module _ {M : Type 1} (𝓤 : URA M) (H : Heap 𝓤) (A : Atoms 𝓤) (mem : Mem
   abbrev Turn : Contract 𝓤
   Turn = tripleOf 𝓤 H A turn.signature (turn.spec 𝓤 H A mem run)
 
-  abbrev Pick : Contract 𝓤
-  Pick = tripleOf 𝓤 H A slot.signature (slot.spec 𝓤 H A mem run)
-
   read-of : (κ : Lft) (x : RefT (List ℕ)) (i : ℕ) (r : Station) → ent 𝓤 (ensured 𝓤 H A read.ended (read.clauses 𝓤 H A mem run) (κ, tt) (x, (i, tt)) tt r) (fact 𝓤 (r ≡ read-at (x .now) i))
   read-of κ x i r = exE 𝓤 _ (λ ws. snd∗ 𝓤 (sem 𝓤 H A (lasts read.ended (κ, tt) (x, (i, tt)) ws)) (fact 𝓤 (r ≡ read-at (x .now) i)))
-
-  slot-of : (m r : ℕ) → ent 𝓤 (ensured 𝓤 H A slot.ended (slot.clauses 𝓤 H A mem run) tt (m, tt) tt r) (fact 𝓤 (r ≡ readAt m))
-  slot-of m r = exE 𝓤 _ (λ ws. snd∗ 𝓤 (sem 𝓤 H A (lasts slot.ended tt (m, tt) ws)) (fact 𝓤 (r ≡ readAt m)))
 
 module _ {M : Type 1} (𝓤 : URA M) (H : Heap 𝓤) (A : Atoms 𝓤) (W : Given 𝓤 H A) (mem : Memory → SProp 𝓤) (run : Routine → Fun 𝓤) (κ κ₂ : Lft) (q q₂ : Share) (b o : ℕ) (γ : GName) (bs : List ℕ) (b₂ o₂ : ℕ) (γ₂ : GName) (ts : List ℕ) (m : ℕ) (y : Bool) (sized : length bs ≡ 18 * numbers) (fits : m < 2 ^ 32) where
   abbrev x₁ : RefT (List ℕ)
@@ -290,13 +285,7 @@ module _ {M : Type 1} (𝓤 : URA M) (H : Heap 𝓤) (A : Atoms 𝓤) (W : Given
         nothing ! $ owned ! bool (Is bool) (bool-makes 𝓤 H A W) y _ refl $ fjoin ! $ owned ! u32 (Is u32) (uint-makes 𝓤 H A W w32) m _ (refl, fits) $ fjoin ! $
         move ! (3 ∷ 0 ∷ []) $ fjoin ! $ move ! (2 ∷ 0 ∷ []) $ fjoin ! $ move ! (1 ∷ 0 ∷ []) $ join ! $ nothing ! $ move ! (1 ∷ 0 ∷ []) $ frame ! $ done !
 
-  abbrev to-slot : Pick 𝓤 H A mem run .Ghost
-  to-slot = ((tt, tt, tt, (m, tt), (vint w32 m ∷ [], tt)), tt)
-
-  goes-slot : ent 𝓤 (emp 𝓤) (Pick 𝓤 H A mem run .pre to-slot)
-  goes-slot = qed W [] ∵ nothing ! $ owned ! u32 (Is u32) (uint-makes 𝓤 H A W w32) m _ (refl, fits) $ join ! $ nothing ! $ join ! $ nothing ! $ move ! (1 ∷ 0 ∷ []) $ frame ! $ done !
-
-  module _ (𝓣 : Tables 𝓤 H) (known-blank : Triple 𝓤 (𝓣 .C #who·vacant) (Blank 𝓤 H A mem run)) (known-read : Triple 𝓤 (𝓣 .C #who·station-at) (Read 𝓤 H A mem run)) (known-turn : Triple 𝓤 (𝓣 .C #master·poll-row) (Turn 𝓤 H A mem run)) (known-slot : Triple 𝓤 (𝓣 .C #master·slot-of) (Pick 𝓤 H A mem run)) (room : Room u8 (length bs)) (room₂ : Room u8 (length ts)) where
+  module _ (𝓣 : Tables 𝓤 H) (known-blank : Triple 𝓤 (𝓣 .C #who·vacant) (Blank 𝓤 H A mem run)) (known-read : Triple 𝓤 (𝓣 .C #who·station-at) (Read 𝓤 H A mem run)) (known-turn : Triple 𝓤 (𝓣 .C #master·poll-row) (Turn 𝓤 H A mem run)) (known-slot : Triple 𝓤 (𝓣 .C #master·slot-of) (SlotOf 𝓤 H A mem run)) (room : Room u8 (length bs)) (room₂ : Room u8 (length ts)) where
     abbrev C : Calls 𝓤 H
     C = 𝓣 .C
 
@@ -396,8 +385,8 @@ module _ {M : Type 1} (𝓤 : URA M) (H : Heap 𝓤) (A : Atoms 𝓤) (W : Given
           land ! (from ! (stop !)) (init ! 32 refl (EL.lawful P.the-type P′.the-laws 𝓤 H A W tt .typed r _ is-w .0)) $
           rewrite ! 32 (λ (z : Val). ‵ (fat fullShare P′.mir l₈ 0 z)) (ap only (EL.tells P.the-type P′.the-laws r _ is-w)) refl $
           -- `slot_of`
-          use0 W (raw (Pick 𝓤 H A mem run .pre to-slot)) goes-slot $
-          calls-at ! fm (Pick 𝓤 H A mem run) known-slot to-slot (and-then ! (load ! (from ! (stop !)) (look ! 42 refl)) (no-more !)) (λ w₁.
+          use0 W (raw (SlotOf 𝓤 H A mem run .pre (to-slot 𝓤 H A mem run m))) (goes-slot 𝓤 H A mem run W m fits) $
+          calls-at ! fm (SlotOf 𝓤 H A mem run) known-slot (to-slot 𝓤 H A mem run m) (and-then ! (load ! (from ! (stop !)) (look ! 42 refl)) (no-more !)) (λ w₁.
           use1 W (later (some (λ (r : ℕ). (‵ ftrue ⊛ ‵ (usize .own r (w₁ ∷ []))) ⊛ raw (ensured 𝓤 H A slot.ended (slot.clauses 𝓤 H A mem run) tt (m, tt) tt r)))) (id⊢ 𝓤 _) $ await ! tt $ pick ! (λ r₁.
           split ! $ move ! (1 ∷ []) $ use1 W (raw (fact 𝓤 (r₁ ≡ k))) (slot-of 𝓤 H A mem run m r₁) $ heard ! (r₁ ≡ k) (λ e₁. split ! $ drop ! $
           rewrite ! 0 (λ (n : ℕ). ‵ (usize .own n (w₁ ∷ []))) e₁ refl $ peeks ! usize (Is usize) (shows 𝓤 H A usize) k (w₁ ∷ []) (λ is₁. drop ! $
@@ -456,7 +445,7 @@ module _ {M : Type 1} (𝓤 : URA M) (H : Heap 𝓤) (A : Atoms 𝓤) (W : Given
         assigns ! (rep ! 64 (load ! (from ! (stop !)) (look ! 38 refl))) (from ! (stop !)) (init ! 36 refl (array-lawful 𝓤 H A W R (LL.lawful T.the-type T′.the-laws 𝓤 H A W) 64 .typed (replicate 64 none) _ are .0)) $ forget ! 38 refl $
         begins (replicate 64 none) (length-replicate 64 none) l₀ l₁ l₂ l₃ l₄ l₅ l₆ l₇ l₈ l₉ l₁₀ l₁₁ l₁₂ l₁₃ l₁₄ l₁₅ l₁₆ l₁₇ l₁₈ l₁₉ l₂₀ l₂₁ l₂₂ (arrayVal (replicate 64 w)) are)))))))))))))))))))))))))))
 
-module _ {M : Type 1} (𝓤 : URA M) (H : Heap 𝓤) (A : Atoms 𝓤) (W : Given 𝓤 H A) (mem : Memory → SProp 𝓤) (run : Routine → Fun 𝓤) (𝓣 : Tables 𝓤 H) (known-blank : Triple 𝓤 (𝓣 .C #who·vacant) (Blank 𝓤 H A mem run)) (known-read : Triple 𝓤 (𝓣 .C #who·station-at) (Read 𝓤 H A mem run)) (known-turn : Triple 𝓤 (𝓣 .C #master·poll-row) (Turn 𝓤 H A mem run)) (known-slot : Triple 𝓤 (𝓣 .C #master·slot-of) (Pick 𝓤 H A mem run)) where
+module _ {M : Type 1} (𝓤 : URA M) (H : Heap 𝓤) (A : Atoms 𝓤) (W : Given 𝓤 H A) (mem : Memory → SProp 𝓤) (run : Routine → Fun 𝓤) (𝓣 : Tables 𝓤 H) (known-blank : Triple 𝓤 (𝓣 .C #who·vacant) (Blank 𝓤 H A mem run)) (known-read : Triple 𝓤 (𝓣 .C #who·station-at) (Read 𝓤 H A mem run)) (known-turn : Triple 𝓤 (𝓣 .C #master·poll-row) (Turn 𝓤 H A mem run)) (known-slot : Triple 𝓤 (𝓣 .C #master·slot-of) (SlotOf 𝓤 H A mem run)) where
   lend-walks : Walks 𝓤 H A lend.ended stayed (WpFn 𝓤 H (𝓣 .C) (𝓣 .Λ) code.function) (lend.clauses 𝓤 H A mem run)
   lend-walks = walked 𝓤 H A lend.ended stayed (lend.clauses 𝓤 H A mem run) (WpFn 𝓤 H (𝓣 .C) (𝓣 .Λ) code.function)
       (λ κs. (slice-vals, (slice-vals, (uint-vals w32, (bool-vals, tt))))) (λ κs. (shr-slice-tells (named 0) (κs .0) u8, (mut-slice-tells (named 1) (κs .1 .0) u8, (uint-tells w32, (bool-tells, tt)))))
@@ -478,4 +467,4 @@ lend-row-spec 𝓤 H 𝓜 𝓖 𝓡 =
     (cited 𝓤 H (Blank 𝓤 H (𝓖 .A) (𝓜 .mem) (𝓡 .run)) 𝓜 𝓡 code.env #who·vacant blank-def.routine code.calls-who·lent·vacant (blank-thm.met 𝓤 H 𝓜 𝓖 𝓡))
     (cited 𝓤 H (Read 𝓤 H (𝓖 .A) (𝓜 .mem) (𝓡 .run)) 𝓜 𝓡 code.env #who·station-at read-def.routine code.calls-who·station-at (read-thm.met 𝓤 H 𝓜 𝓖 𝓡))
     (cited 𝓤 H (Turn 𝓤 H (𝓖 .A) (𝓜 .mem) (𝓡 .run)) 𝓜 𝓡 code.env #master·poll-row turn-def.routine code.calls-master·poll-row (turn-thm.met 𝓤 H 𝓜 𝓖 𝓡))
-    (cited 𝓤 H (Pick 𝓤 H (𝓖 .A) (𝓜 .mem) (𝓡 .run)) 𝓜 𝓡 code.env #master·slot-of slot-def.routine code.calls-master·poll·slot-of (slot-thm.met 𝓤 H 𝓜 𝓖 𝓡)))
+    (cited 𝓤 H (SlotOf 𝓤 H (𝓖 .A) (𝓜 .mem) (𝓡 .run)) 𝓜 𝓡 code.env #master·slot-of slot-def.routine code.calls-master·poll·slot-of (slot-thm.met 𝓤 H 𝓜 𝓖 𝓡)))
