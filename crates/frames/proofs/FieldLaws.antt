@@ -37,7 +37,7 @@ TrackFits (Logout src) = Unit
 
 -- the fields that were written behind a code k read back
 module _ (k : ℕ) where
-  address-reads : (src : ℕ) (a : Address) → a .track .0 < 65536 → addressIn (k ∷ addressFields src a) ≡ a
+  pub address-reads : (src : ℕ) (a : Address) → a .track .0 < 65536 → addressIn (k ∷ addressFields src a) ≡ a
   unfolding addressIn addressFields lowBytes part
   address-reads src a small = rw (low-back 2 (a .track .0) small)
 

@@ -4,6 +4,7 @@ pub mod code;
 mod compose;
 mod parse;
 
+pub use parse::plain;
 use terms::Address;
 use terms::LockString;
 ghost use lib.ListN.{length};

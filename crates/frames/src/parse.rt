@@ -11,6 +11,7 @@ use terms::Volume;
 ghost use mathlib.Core.Path.{_≡_};
 ghost use Prim.Native.Nat.{_≤_};
 ghost use lib.ListN.{length};
+ghost use Rattle.rows.specs.Outcomes.{Gives};
 ghost use Rattle.frames.specs.Requests.{plain as plainOf};
 ghost use Rattle.frames.specs.Reading.{refusalOf, addressIn, namedIn, loginIn, stringRequest, requestIn};
 
@@ -34,9 +35,9 @@ pub fn refusal_of(frame: &[u8]) -> u8
     if frame[1] == 0 { 0 } else { 6 }
 }
 
-// A command that carries no byte fields.
+// The request of a command, with all byte fields zero.
 pub fn plain(command: Command) -> Request
-    ensures { λ r. ⌜ r ≡ plainOf command ⌝ }
+    ensures { λ r. ⌜ Gives (plainOf command) r ⌝ }
 {
     Request {
         command,

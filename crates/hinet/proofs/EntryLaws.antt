@@ -1,6 +1,7 @@
 -- What the C program can rely on, over the contracts of the entries. `Bytes` is what the types say of every slice.
 use Prim.Native.Nat.{ℕ}
 use mathlib.Core.Path.{_≡_, refl, sym, ap, _∙_}
+use mathlib.Core.Bool.{false}
 use mathlib.Core.List.{List}
 use lib.Dec.{eqb}
 use Rattle.rows.proofs.BoolLaws.{by-test}
@@ -14,15 +15,15 @@ use Rattle.frames.specs.Reading.{requestIn}
 use Rattle.site.specs.Places.{placedBy}
 use Rattle.master.proofs.EffectLaws.{unless-keeps}
 use Rattle.master.proofs.Outcomes.{no-answer}
-use Rattle.master.specs.Answers.{refuses}
+use Rattle.master.specs.Answers.{refuses, turn-was}
 use Rattle.master.specs.Frames.{placeTold, numberGiven, loginEffect, effectOf, requestEffect, frameEffect}
 use Rattle.hinet.specs.Packing.{word, refusalIn, toldIn}
-use Rattle.hinet.specs.Entries.{placeWord, Tells, Freshened, Served, isHeard, Polled}
-use Rattle.hinet.proofs.PackLaws.{Tellable, word-back, refused-told}
-use Rattle.hinet.proofs.TellLaws.{placed-fits, frame-fits, poll-fits}
+use Rattle.hinet.specs.Entries.{placeWord, Tells, Freshened, Served, isHeard, Polled, dueWord}
+use Rattle.hinet.proofs.PackLaws.{Tellable, word-back, refused-told, choice-tells, refused-choice}
+use Rattle.hinet.proofs.TellLaws.{placed-fits, frame-fits, poll-small, poll-fits}
 use Rattle.master.specs.Effects.{Effect, unless}
 use Rattle.master.specs.Fresh.{freshEffect, sized}
-use Rattle.master.specs.Polls.{outNow, stationTurn, pollEffect, stationAt}
+use Rattle.master.specs.Polls.{dueNow, outNow, stationTurn, pollRefusal, pollEffect, dueTold, stationAt}
 
 -- any two outcomes that a contract allows are equal
 pub tells-one : {e : Effect (List ℕ)} {t′ w′ t″ w″ : List ℕ} {r q : ℕ} → Tells e r t′ w′ → Tells e q t″ w″ → (r ≡ q) × (t′ ≡ t″) × (w′ ≡ w″)
@@ -88,3 +89,15 @@ module _ (n heard : ℕ) (t w : List ℕ) (r : ℕ) (t′ w′ : List ℕ) (done
   unfolding pollEffect stationTurn
   refused-poll-untouched = untouched (pollEffect n (isHeard heard) t w) (poll-fits n (isHeard heard) t w) r t′ w′ done t w
       (unless-keeps _ t w _ (λ j e. absurd (by-test (outNow (stationAt w n) (isHeard heard)) (λ y. no-answer (sym (rw y at e))) (λ m. no-answer (sym (rw m at e))))))
+
+-- whether a turn is due: the word tells it, and a refused one is its number and nothing else
+module _ (n : ℕ) (t w : List ℕ) (r : ℕ) (done : Gives (dueWord n t w) r) where
+  pub due-word-tells : toldIn r ≡ dueTold n t w
+  unfolding dueWord dueTold
+  due-word-tells = choice-tells (pollRefusal n false t w) (poll-small n false t w) (turn-was (dueNow (stationAt w n)) false) tt r (done .answer)
+
+  pub refused-due-bare : (refusalIn r ≡ 0 → ⊥) → (r ≡ refusalIn r) × (r ≡ pollRefusal n false t w)
+  unfolding dueWord dueTold
+  refused-due-bare ne =
+      let told = refused-choice (pollRefusal n false t w) (poll-small n false t w) (turn-was (dueNow (stationAt w n)) false) tt r (done .answer) ne in
+      (told .0, told .1)

@@ -9,8 +9,8 @@ use mir.Val.{boolByte}
 use Rattle.rows.proofs.BoolLaws.{by-test}
 use Rattle.who.specs.Records.{flag}
 use Rattle.master.proofs.Outcomes.{no-answer}
-use Rattle.master.specs.Answers.{Told, refuses, answers, Answered, no-bytes, status-byte, assign-bytes, place-at, login-as, turn-was, frame-of, answersUnless}
-use Rattle.hinet.specs.Packing.{STATUS, ASSIGN, PLACE, LOGIN, TURN, WRITTEN, word, refusalIn, kindIn, bytesIn, toldIn, answeredIn, flagIn}
+use Rattle.master.specs.Answers.{Told, refuses, answers, Answered, no-bytes, status-byte, assign-bytes, place-at, login-as, turn-was, frame-of, request-of, answersUnless}
+use Rattle.hinet.specs.Packing.{STATUS, ASSIGN, PLACE, LOGIN, TURN, WRITTEN, REQUEST, word, refusalIn, kindIn, bytesIn, toldIn, answeredIn, flagIn}
 
 -- a flag as a byte
 pub flag-byte : (b : Bool) → boolByte b ≡ flag b
@@ -33,6 +33,7 @@ Tellable (answers (place-at volume sector)) = (volume < 256) × (sector < 2 ^ 32
 Tellable (answers (login-as number found serial)) = (number < 256) × (serial < 2 ^ 32)
 Tellable (answers (turn-was due out)) = Unit
 Tellable (answers (frame-of length)) = length < 256
+Tellable (answers (request-of code)) = code < 256
 
 -- what a word tells whose refusal is known, and the answer in one whose kind is known
 refusal-is : (x : ℕ) → (refusalIn x ≡ 0 → ⊥) → toldIn x ≡ refuses (refusalIn x)
@@ -77,6 +78,10 @@ written-is : (x a : ℕ) → kindIn x ≡ WRITTEN → bytesIn x 0 1 ≡ a → an
 unfolding answeredIn
 written-is x a k e = rw (k, e)
 
+request-is : (x a : ℕ) → kindIn x ≡ REQUEST → bytesIn x 0 1 ≡ a → answeredIn x ≡ request-of a
+unfolding answeredIn
+request-is x a k e = rw (k, e)
+
 -- taking the word apart gives what was told
 pub refusal-back : (k : ℕ) → (1 ≤ k) × (k < 256) → toldIn k ≡ refuses k
 unfolding refusalIn
@@ -99,6 +104,7 @@ word-back (answers (turn-was a b)) h =
     let s′ = flag-small b in
     answer-is _ (omega arith) _ (turn-is _ a b (omega arith) (omega arith) (omega arith))
 word-back (answers (frame-of a)) h = answer-is _ (omega arith) _ (written-is _ a (omega arith) (omega arith))
+word-back (answers (request-of a)) h = answer-is _ (omega arith) _ (request-is _ a (omega arith) (omega arith))
 
 -- two answers never have one word
 pub one-word : (a b : Told) → Tellable a → Tellable b → word a ≡ word b → a ≡ b

@@ -169,7 +169,7 @@ module _ (n : ℕ) (f s t w : List ℕ) where
   frame-fits frame site = unless-fits (refusal n f s t w) t w _ refusal-small (λ z. answer-fits frame site (site-good z))
 
 -- a poll turn
-poll-small : (n : ℕ) (h : Bool) (t w : List ℕ) → pollRefusal n h t w < 256
+pub poll-small : (n : ℕ) (h : Bool) (t w : List ℕ) → pollRefusal n h t w < 256
 unfolding pollRefusal turnRefusal
 poll-small n h t w =
     either (not (goodTables t w)) 11 _ (omega arith)

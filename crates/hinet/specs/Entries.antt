@@ -12,7 +12,7 @@ use Rattle.master.specs.Frames.{placeTold, frameEffect}
 use Rattle.hinet.specs.Packing.{word}
 use Rattle.master.specs.Effects.{Effect}
 use Rattle.master.specs.Fresh.{freshEffect}
-use Rattle.master.specs.Polls.{pollEffect}
+use Rattle.master.specs.Polls.{dueTold, pollEffect}
 
 -- the checks: 0 or the refusal
 unfoldable pub tablesWord : List ℕ → List ℕ → ℕ
@@ -21,10 +21,11 @@ tablesWord t w = cond (goodTables t w) 0 11
 unfoldable pub siteWord : List ℕ → ℕ
 siteWord s = cond (goodSite s) 0 10
 
--- the place of volume, partition, track and sector: any numbers, and none is cut
+-- volume, partition, track and sector as C gives them: any numbers, and none is cut
 unfoldable pub addressOf : ℕ → ℕ → ℕ → ℕ → Address
 addressOf v p t x = record { volume = record { 0 = v }; partition = record { 0 = p }; track = record { 0 = t }; sector = record { 0 = x } }
 
+-- the place of an address
 unfoldable pub placeWord : List ℕ → Address → ℕ
 placeWord s a = word (placeTold (placedBy s a))
 
@@ -48,3 +49,7 @@ isHeard n = not (eqb n 0)
 
 abbrev pub Polled : ℕ → ℕ → List ℕ → List ℕ → ℕ → List ℕ → List ℕ → Type 0
 Polled n heard t w = Tells (pollEffect n (isHeard heard) t w)
+
+-- is the next turn due
+unfoldable pub dueWord : ℕ → List ℕ → List ℕ → ℕ
+dueWord n t w = word (dueTold n t w)

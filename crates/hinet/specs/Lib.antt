@@ -1,3 +1,4 @@
 pub mod Packing
 pub mod Entries
+pub mod FrameEntries
 pub mod StationEntries

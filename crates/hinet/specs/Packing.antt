@@ -3,7 +3,7 @@ use Prim.Native.Nat.{ℕ, _+_, _*_, _/_, _%_, _^_}
 use mathlib.Core.Bool.{Bool, cond}
 use lib.Dec.{eqb}
 use Rattle.who.specs.Records.{flag}
-use Rattle.master.specs.Answers.{Told, refuses, answers, Answered, no-bytes, status-byte, assign-bytes, place-at, login-as, turn-was, frame-of}
+use Rattle.master.specs.Answers.{Told, refuses, answers, Answered, no-bytes, status-byte, assign-bytes, place-at, login-as, turn-was, frame-of, request-of}
 
 -- the kinds of answer; an entry with nothing more to tell returns 0
 abbrev pub STATUS : ℕ
@@ -24,6 +24,9 @@ TURN = 5
 abbrev pub WRITTEN : ℕ
 WRITTEN = 6
 
+abbrev pub REQUEST : ℕ
+REQUEST = 13
+
 -- a sector and a serial take four bytes, every other value takes one
 unfoldable pub word : Told → ℕ
 word (refuses k) = k
@@ -35,6 +38,7 @@ word (answers (place-at volume sector)) = PLACE * 2 ^ 8 + volume * 2 ^ 16 + sect
 word (answers (login-as number found serial)) = LOGIN * 2 ^ 8 + number * 2 ^ 16 + flag found * 2 ^ 24 + serial * 2 ^ 32
 word (answers (turn-was due out)) = TURN * 2 ^ 8 + flag due * 2 ^ 16 + flag out * 2 ^ 24
 word (answers (frame-of length)) = WRITTEN * 2 ^ 8 + length * 2 ^ 16
+word (answers (request-of code)) = REQUEST * 2 ^ 8 + code * 2 ^ 16
 
 -- how the C program takes a word apart: the refusal, the kind, and n bytes of the answer from byte i on
 unfoldable pub refusalIn : ℕ → ℕ
@@ -58,7 +62,8 @@ answeredIn x =
     (cond (eqb (kindIn x) LOGIN) (login-as (bytesIn x 0 1) (flagIn x 1) (bytesIn x 2 4))
     (cond (eqb (kindIn x) TURN) (turn-was (flagIn x 0) (flagIn x 1))
     (cond (eqb (kindIn x) WRITTEN) (frame-of (bytesIn x 0 1))
-    no-bytes)))))
+    (cond (eqb (kindIn x) REQUEST) (request-of (bytesIn x 0 1))
+    no-bytes))))))
 
 unfoldable pub toldIn : ℕ → Told
 toldIn x = cond (eqb (refusalIn x) 0) (answers (answeredIn x)) (refuses (refusalIn x))

@@ -1,20 +1,13 @@
 // The entries for the box's C program: numbers and byte slices in, one word out (specs/Packing.antt). Each is thin over
 // the proved library and takes any input. A number that is too large for what it means is refused and never cut to a byte.
-// Here stand the master's; the station's stand in station_end.rt.
+// Here stand the master's; those that write and read one frame stand in requests.rt, the station's in station_end.rt.
+mod given;
 mod packing;
+mod requests;
 mod station_end;
 
-use terms::Address;
-use terms::Partition;
-use terms::Sector;
-use terms::Track;
-use terms::Volume;
-ghost use mathlib.Core.Path.{_≡_};
-ghost use mathlib.Core.Bool.{cond};
-ghost use Prim.Native.Nat.{min};
 ghost use Rattle.rows.specs.Outcomes.{Gives};
-ghost use Rattle.site.specs.Rules.{goodSite};
-ghost use Rattle.hinet.specs.Entries.{tablesWord, siteWord, addressOf, placeWord, Freshened, Served, Polled};
+ghost use Rattle.hinet.specs.Entries.{tablesWord, siteWord, addressOf, placeWord, dueWord, Freshened, Served, Polled};
 
 // Fills fresh tables; 11 for another size.
 #[no_mangle]
@@ -66,24 +59,12 @@ pub extern "C" fn hinet_poll(number: u32, heard: u32, locks: &mut [u8], stations
     packing::pack_turn(master::poll_turn(number, heard != 0, locks, stations))
 }
 
-// A track or sector that is too large for its type becomes the largest one, which lies outside of every partition too.
-fn track_of(track: u32) -> Track
-    ensures { λ r. ⌜ r .0 ≡ min track 65535 ⌝ }
+// Is the next poll turn of the number due: 11, 2, 5, or due and no logout.
+#[no_mangle]
+pub extern "C" fn hinet_due(number: u32, locks: &[u8], stations: &[u8]) -> u64
+    ensures { λ r. ⌜ Gives (dueWord number (now (locks .entry)) (now (stations .entry))) r ⌝ }
 {
-    Track(if track < 65535 { track as u16 } else { 65535 })
-}
-
-fn sector_of(sector: u32) -> Sector
-    ensures { λ r. ⌜ r .0 ≡ min sector 255 ⌝ }
-{
-    Sector(packing::byte_of(sector))
-}
-
-// 10, or 8 in a good site file.
-fn no_row(site: &[u8]) -> u64
-    ensures { λ r. ⌜ r ≡ cond (goodSite (now (site .entry))) 8 10 ⌝ }
-{
-    if site::is_good(site) { 8 } else { 10 }
+    packing::pack_turn(master::due(number, locks, stations))
 }
 
 // The place of an address: 10, 8, 9, or volume and sector. A volume or partition above 255 names no row.
@@ -97,17 +78,5 @@ pub extern "C" fn hinet_place(
 ) -> u64
     ensures { λ r. ⌜ Gives (placeWord (now (site .entry)) (addressOf volume partition track sector)) r ⌝ }
 {
-    if 255 < volume {
-        return no_row(site);
-    }
-    if 255 < partition {
-        return no_row(site);
-    }
-    let address = Address {
-        volume: Volume(volume as u8),
-        partition: Partition(partition as u8),
-        track: track_of(track),
-        sector: sector_of(sector),
-    };
-    packing::pack_place(site::place(site, address))
+    packing::pack_place(site::place(site, given::address_of(volume, partition, track, sector)))
 }

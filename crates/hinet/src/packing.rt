@@ -1,14 +1,15 @@
-// An answer as one word (specs/Packing.antt), and a number of C as a byte.
+// An answer as one word (specs/Packing.antt).
+use frames::Written;
 use master::Answer;
 use master::Turned;
 use site::Placed;
 use station::Sent;
 ghost use mathlib.Core.Path.{_≡_};
-ghost use Prim.Native.Nat.{min};
-ghost use Rattle.master.specs.Answers.{told};
+ghost use Prim.Native.Nat.{_<_};
+ghost use Rattle.master.specs.Answers.{answers, request-of, told, turnTold};
 ghost use Rattle.master.specs.Frames.{placeTold};
-ghost use Rattle.master.specs.Answers.{turnTold};
 ghost use Rattle.hinet.specs.Packing.{word};
+ghost use Rattle.hinet.specs.FrameEntries.{writtenTold};
 ghost use Rattle.hinet.specs.StationEntries.{stepTold, sentTold};
 
 // The kinds of answer, in bits 8 to 15.
@@ -23,6 +24,8 @@ const LOGIN: u64 = 0x400;
 const TURN: u64 = 0x500;
 
 const WRITTEN: u64 = 0x600;
+
+const REQUEST: u64 = 0xD00;
 
 // Where the bytes of an answer stand.
 const BYTE_0: u64 = 0x1_0000;
@@ -96,9 +99,21 @@ pub fn pack_sent(sent: Sent) -> u64
     WRITTEN + sent.length as u64 * BYTE_0
 }
 
-// A number that is too large for a byte becomes 255.
-pub fn byte_of(n: u32) -> u8
-    ensures { λ r. ⌜ r ≡ min n 255 ⌝ }
+// A frame written: 13, or its length.
+pub fn pack_written(written: Written) -> u64
+    requires { ⌜ written .length < 256 ⌝ }
+    ensures { λ r. ⌜ r ≡ word (writtenTold written) ⌝ }
 {
-    if n < 255 { n as u8 } else { 255 }
+    let refusal = written.refusal;
+    if refusal != 0 {
+        return refusal as u64;
+    }
+    WRITTEN + written.length as u64 * BYTE_0
+}
+
+// A frame that reads well: its code.
+pub fn pack_request(code: u8) -> u64
+    ensures { λ r. ⌜ r ≡ word (answers (request-of code)) ⌝ }
+{
+    REQUEST + code as u64 * BYTE_0
 }

@@ -1,16 +1,8 @@
 // The entries of a station's end of the lock exchange, over its state of 911 lent bytes (specs/StationEntries.antt).
+use crate::given;
 use crate::packing;
-use terms::LockString;
-ghost use mathlib.Core.Path.{_≡_};
 ghost use Rattle.terms.specs.Strings.{stringAt};
 ghost use Rattle.hinet.specs.StationEntries.{Freshly, Locks, Unlocks, Clears, Sends, Takes};
-
-// The string in 14 bytes, the length first.
-fn string_of(lockstring: &[u8; 14]) -> LockString
-    ensures { λ s. ⌜ s ≡ stringAt (now (lockstring .entry)) 0 ⌝ }
-{
-    terms::string_at(lockstring, 0)
-}
 
 // An empty list, and no reply awaited: 11 for another size.
 #[no_mangle]
@@ -25,7 +17,7 @@ pub extern "C" fn hinet_station_fresh(station: &mut [u8]) -> u64
 pub extern "C" fn hinet_station_lock(station: &mut [u8], lockstring: &[u8; 14]) -> u64
     ensures { λ r. ⌜ Locks (now (station .entry)) (stringAt (now (lockstring .entry)) 0) r (now (station .exit)) ⌝ }
 {
-    packing::pack_step(station::ask_lock(station, string_of(lockstring)))
+    packing::pack_step(station::ask_lock(station, given::string_of(lockstring)))
 }
 
 // Asks to unlock: 11, 14.
@@ -33,7 +25,7 @@ pub extern "C" fn hinet_station_lock(station: &mut [u8], lockstring: &[u8; 14]) 
 pub extern "C" fn hinet_station_unlock(station: &mut [u8], lockstring: &[u8; 14]) -> u64
     ensures { λ r. ⌜ Unlocks (now (station .entry)) (stringAt (now (lockstring .entry)) 0) r (now (station .exit)) ⌝ }
 {
-    packing::pack_step(station::ask_unlock(station, string_of(lockstring)))
+    packing::pack_step(station::ask_unlock(station, given::string_of(lockstring)))
 }
 
 // Asks to clear all locks: 11, 14.
@@ -57,5 +49,5 @@ pub extern "C" fn hinet_station_frame(station: &[u8], buffer: &mut [u8]) -> u64
 pub extern "C" fn hinet_station_reply(station: &mut [u8], reply: u32) -> u64
     ensures { λ r. ⌜ Takes (now (station .entry)) reply r (now (station .exit)) ⌝ }
 {
-    packing::pack_step(station::take_reply(station, packing::byte_of(reply)))
+    packing::pack_step(station::take_reply(station, given::byte_of(reply)))
 }

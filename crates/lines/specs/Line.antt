@@ -6,7 +6,7 @@ use lib.Dec.{ltb}
 use lib.ListN.{length}
 use Rattle.rows.specs.Rows.{put}
 use Rattle.rows.specs.Outcomes.{Leaves}
-use Rattle.master.specs.Answers.{Told, refuses, answers, no-bytes, status-byte, assign-bytes, place-at, login-as, turn-was, frame-of}
+use Rattle.master.specs.Answers.{Told, refuses, answers, no-bytes, status-byte, assign-bytes, place-at, login-as, turn-was, frame-of, request-of}
 
 -- the characters, by their ASCII codes
 abbrev pub NEWLINE : ℕ
@@ -57,6 +57,7 @@ answerText (answers (login-as number found serial)) = hexByte number ++ (yesOrNo
 answerText (answers (assign-bytes size partition control volume)) = hexByte size ++ (hexByte partition ++ (hexByte control ++ hexByte volume))
 answerText (answers (turn-was due out)) = DASH ∷ []
 answerText (answers (frame-of length)) = DASH ∷ []
+answerText (answers (request-of code)) = DASH ∷ []
 
 -- the refusal, 0 for none
 unfoldable pub refusalNumber : Told → ℕ

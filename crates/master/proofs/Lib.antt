@@ -6,6 +6,7 @@ pub mod Deeds
 pub mod Keeps
 pub mod PollLaws
 pub mod PollKeeps
+pub mod DueLaws
 pub mod RowPollLaws
 pub mod Lent
 pub mod SlotCall

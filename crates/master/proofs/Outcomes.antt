@@ -5,7 +5,7 @@ use mathlib.Core.Path.{_≡_, refl, sym, ap, _∙_}
 use mathlib.Core.List.{List}
 use Rattle.master.specs.declared.Answer.{Answer}
 use Rattle.master.specs.declared.Answer.the-variants.{Refused, Nothing, Status, Assigned, At, LoggedIn}
-use Rattle.master.specs.Answers.{Told, refuses, answers, no-bytes, status-byte, assign-bytes, place-at, login-as, turn-was, frame-of, told, Answered}
+use Rattle.master.specs.Answers.{Told, refuses, answers, no-bytes, status-byte, assign-bytes, place-at, login-as, turn-was, frame-of, request-of, told, Answered}
 use Rattle.master.specs.Refusals.{refusal}
 use Rattle.master.specs.Frames.{Serves, frameEffect}
 use Rattle.master.specs.Effects.{Effect, Does}
@@ -25,6 +25,7 @@ known (answers (place-at v s)) = At (record { volume = record { 0 = v }; sector 
 known (answers (login-as n f s)) = LoggedIn n f s
 known (answers (turn-was d o)) = Nothing
 known (answers (frame-of l)) = Nothing
+known (answers (request-of code)) = Nothing
 
 known-told : (a : Answer) → known (told a) ≡ a
 unfolding known told

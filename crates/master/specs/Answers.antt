@@ -8,7 +8,7 @@ use Rattle.master.specs.declared.Turned.{Turned}
 use Rattle.master.specs.declared.Turned.the-variants.{Refused as NotTurned, Turn}
 
 -- the kinds: nothing more to tell; a status; size code, partition number, control, volume; volume and sector; number, name found, and
--- the number in the four serial bytes; was a turn due, did it end in a logout; the length of a frame written
+-- the number in the four serial bytes; was a turn due, did it end in a logout; the length of a frame written; the code of a frame read
 pub data Answered : Type 0 where
   no-bytes : Answered
   status-byte : ℕ → Answered
@@ -17,6 +17,7 @@ pub data Answered : Type 0 where
   login-as : ℕ → Bool → ℕ → Answered
   turn-was : Bool → Bool → Answered
   frame-of : ℕ → Answered
+  request-of : ℕ → Answered
 
 pub data Told : Type 0 where
   refuses : ℕ → Told

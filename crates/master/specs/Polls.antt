@@ -12,7 +12,7 @@ use Rattle.who.specs.Turns.{isDue, missesAfter, slowAfter, isOut}
 use Rattle.locks.specs.Table.{clearedTable}
 use Rattle.master.specs.declared.Turned.{Turned}
 use Rattle.master.specs.Tables.{goodTables}
-use Rattle.master.specs.Answers.{answers, turn-was, turnTold}
+use Rattle.master.specs.Answers.{Told, answers, turn-was, answersUnless, turnTold}
 use Rattle.master.specs.Effects.{Effect, telling, unless, Does}
 use Rattle.master.specs.Refusals.{ANYBODY, unknown}
 
@@ -68,6 +68,10 @@ pollRefusal n heard t w = turnRefusal (goodTables t w) (loggedIn w) n heard (due
 
 unfoldable pub pollEffect : ℕ → Bool → List ℕ → List ℕ → Effect (List ℕ)
 pollEffect n heard t w = unless (pollRefusal n heard t w) t w (placing (λ s. setRow 18 w n (bytesOf s)) (stationTurn n (stationAt w n) heard t))
+
+-- is the next turn of the number due: a turn that is not heard is refused for 11, 2 and 5 alone, and then what a turn tells of due
+unfoldable pub dueTold : ℕ → List ℕ → List ℕ → Told
+dueTold n t w = answersUnless (pollRefusal n false t w) (turn-was (dueNow (stationAt w n)) false)
 
 -- what a poll turn gives and leaves, whole
 abbrev pub Polls : ℕ → Bool → List ℕ → List ℕ → Turned → List ℕ → List ℕ → Type 0

@@ -15,7 +15,8 @@ ghost use Rattle.site.specs.Rules.{goodSite};
 ghost use Rattle.master.specs.Tables.{goodTables};
 ghost use Rattle.master.specs.Frames.{Serves};
 ghost use Rattle.master.specs.Fresh.{Freshens};
-ghost use Rattle.master.specs.Polls.{Polls};
+ghost use Rattle.master.specs.Answers.{turnTold};
+ghost use Rattle.master.specs.Polls.{dueTold, Polls};
 ghost use Rattle.master.specs.RowPolls.{RowPolls};
 
 pub enum Answer {
@@ -99,6 +100,24 @@ pub fn serve(number: u32, frame: &[u8], site: &[u8], locks: &mut [u8], records: 
         return Answer::Refused(10);
     }
     act(number, frame, site, locks, records)
+}
+
+// Is the next poll turn of the number due: 11, 2, 5, or due, and no logout.
+pub fn due(number: u32, locks: &[u8], records: &[u8]) -> Turned
+    ensures { λ r. ⌜ Gives (dueTold number (now (locks .entry)) (now (records .entry))) (turnTold r) ⌝ }
+{
+    if !who::is_good(records) {
+        return Turned::Refused(11);
+    }
+    let refusal = poll::word_refusal(who::lent::word_of(records), number, locks);
+    if refusal != 0 {
+        return Turned::Refused(refusal);
+    }
+    let s = who::station_at(records, number as usize);
+    Turned::Turn {
+        due: who::is_due(s.misses, s.slow),
+        out: false,
+    }
 }
 
 // One poll turn of the number, heard or not, over the records lent as one row: 11, 2, 5, 12, or the turn.

@@ -49,7 +49,7 @@ fn is_early(heard: bool, due: bool) -> bool
 }
 
 // 11 for the lock table, 2 or 5, or 0. The word says who is logged in.
-fn word_refusal(word: u64, number: u32, locks: &[u8]) -> u8
+pub fn word_refusal(word: u64, number: u32, locks: &[u8]) -> u8
     ensures { λ r. ⌜ r ≡ seatRefusal (goodLocks (bitAt word) (now (locks .entry))) (bitAt word) number ⌝ }
 {
     if !locks::is_good(locks, word) {

@@ -228,9 +228,9 @@ pub struct Turn {
     pub slow: u8,
 }
 
-// The station is due in this turn.
-fn is_due(misses: u16, slow: u8) -> bool
-    ensures { λ r. ⌜ r ≡ isDue misses slow ⌝ }
+// A station with these misses and slow turns is due in its next turn.
+pub fn is_due(misses: u16, slow: u8) -> bool
+    ensures { λ r. ⌜ Gives (isDue misses slow) r ⌝ }
 {
     if misses < 160 {
         return true;

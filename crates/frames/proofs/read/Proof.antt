@@ -14,7 +14,7 @@ returns c = record { answer = rw (c .before .if1 .taken, c .request-of .ensures,
 
 returns-2 : tie.Need-returns-2
 unfolding readingOf
-returns-2 c = record { answer = rw (c .before .before .refusal-of .ensures, c .plain .ensures, ne-eqb _ _ (λ e. c .before .if1 .left (c .before .before .refusal-of .ensures ∙ e))) }
+returns-2 c = record { answer = rw (c .before .before .refusal-of .ensures, c .plain .ensures .answer, ne-eqb _ _ (λ e. c .before .if1 .left (c .before .before .refusal-of .ensures ∙ e))) }
 
 pub read-spec : {M : Type 1} → statement M
 read-spec =

@@ -1,14 +1,11 @@
 use Rattle.master.specs.Tables.{goodTables}
 use Rattle.locks.specs.Good.{goodLocks}
-use Rattle.who.specs.Logins.{loggedIn}
-use Rattle.who.specs.Good.{stationsOf}
-use Rattle.who.proofs.RowLaws.{word-in}
-use Rattle.who.proofs.WhoLaws.{good-is, stations-logged}
-use Rattle.rows.specs.Numbers.{bitAt}
+use Rattle.who.proofs.WhoLaws.{good-is}
+use Rattle.master.proofs.DueLaws.{word-inside}
 use borrow.Author.Tests.{not-true, not-false}
 use denote.Ref.{now}
 use mathlib.Core.Bool.{Bool}
-use mathlib.Core.Path.{_≡_, sym, ap, _∙_}
+use mathlib.Core.Path.{sym, ap, _∙_}
 use Prim.Native.Nat.{ℕ}
 use borrow.Author.Needs.{needs}
 use Rattle.master.proofs.tables_good.Statement.{statement}
@@ -32,7 +29,7 @@ returns-2 c =
     let w = now (start .args .records) in
     let t = now (start .args .locks) in
     let good = sym (check .before .is-good .ensures .answer) ∙ not-false _ (check .if1 .left) in
-    let inside : bitAt (word .word-of .result) ≡ loggedIn w = ap bitAt (word .word-of .ensures) ∙ (λ d n. (word-in (stationsOf w) n ∙ stations-logged w (good-is w good .sized) n) d) in
+    let inside = word-inside w good _ (word .word-of .ensures) in
     record { answer = rw good (c .is-good2 .ensures .answer ∙ ap (λ (p : ℕ → Bool). goodLocks p t) inside) }
 
 pub tables-good-spec : {M : Type 1} → statement M

@@ -5,7 +5,7 @@ use Rattle.frames.proofs.parse.plain.Tie as tie
 
 returns : tie.Need-returns
 unfolding plain
-returns c = refl
+returns c = record { answer = refl }
 
 pub plain-spec : {M : Type 1} → statement M
 plain-spec = tie.close (tie.spec returns)

@@ -48,11 +48,11 @@ shared-slice-read-t19 c = omega (arith, well-long _ LOGOUT (c .before .before .b
 
 returns : tie.Need-returns
 unfolding requestIn
-returns c = rw (c .before .before .before .match .keys1, c .plain .ensures, c .before .address-of .ensures)
+returns c = rw (c .before .before .before .match .keys1, c .plain .ensures .answer, c .before .address-of .ensures)
 
 returns-2 : tie.Need-returns-2
 unfolding requestIn
-returns-2 c = rw (c .before .before .before .match .keys2, c .plain2 .ensures, c .before .address-of2 .ensures)
+returns-2 c = rw (c .before .before .before .match .keys2, c .plain2 .ensures .answer, c .before .address-of2 .ensures)
 
 returns-3 : tie.Need-returns-3
 unfolding requestIn
@@ -72,17 +72,17 @@ returns-6 c = rw (c .before .match .keys6) (c .with-string2 .ensures)
 
 returns-7 : tie.Need-returns-7
 unfolding requestIn
-returns-7 c = rw (c .before .match .keys7) (c .plain3 .ensures)
+returns-7 c = rw (c .before .match .keys7) (c .plain3 .ensures .answer)
 
 returns-8 : tie.Need-returns-8
 unfolding requestIn
-returns-8 c = rw (c .before .before .match .keys8) (c .plain4 .ensures)
+returns-8 c = rw (c .before .before .match .keys8) (c .plain4 .ensures .answer)
 
 returns-9 : tie.Need-returns-9
 unfolding requestIn
 returns-9 c = let r = c .before .match .rest in
     rw (ne-eqb _ _ (r .0 .0 .0 .0 .0 .0 .0 .1), ne-eqb _ _ (r .0 .0 .0 .0 .0 .0 .1), ne-eqb _ _ (r .0 .0 .0 .0 .0 .1), ne-eqb _ _ (r .0 .0 .0 .0 .1), ne-eqb _ _ (r .0 .0 .0 .1), ne-eqb _ _ (r .0 .0 .1), ne-eqb _ _ (r .0 .1), ne-eqb _ _ (r .1))
-    (c .plain5 .ensures)
+    (c .plain5 .ensures .answer)
 
 pub request-of-spec : {M : Type 1} → statement M
 request-of-spec =
