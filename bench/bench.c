@@ -33,6 +33,7 @@ struct side {
     uint64_t (*frame)(uint32_t, const uint8_t *, size_t, const uint8_t *, size_t,
                       uint8_t *, size_t, uint8_t *, size_t);
     uint64_t (*place)(uint32_t, uint32_t, uint32_t, uint32_t, const uint8_t *, size_t);
+    uint64_t (*due)(uint32_t, const uint8_t *, size_t, const uint8_t *, size_t);
     uint64_t (*poll)(uint32_t, uint32_t, uint8_t *, size_t, uint8_t *, size_t);
     uint64_t (*station_fresh)(uint8_t *, size_t);
     uint64_t (*station_lock)(uint8_t *, size_t, const uint8_t *);
@@ -42,13 +43,21 @@ struct side {
     uint64_t (*station_reply)(uint8_t *, size_t, uint32_t);
 };
 
+/* The place by plain numbers, as the reference has it. */
+static uint64_t library_place(uint32_t volume, uint32_t partition, uint32_t track, uint32_t sector,
+                              const uint8_t *site, size_t site_len)
+{
+    return hinet_place(hinet_volume_of(volume), hinet_partition_of(partition),
+                       hinet_track_of(track), hinet_sector_of(sector), site, site_len);
+}
+
 static const struct side library = {
-    "lib", hinet_check_tables, hinet_check_site, hinet_frame, hinet_place, hinet_poll,
+    "lib", hinet_check_tables, hinet_check_site, hinet_frame, library_place, hinet_due, hinet_poll,
     hinet_station_fresh, hinet_station_lock, hinet_station_unlock, hinet_station_clear,
     hinet_station_frame, hinet_station_reply
 };
 static const struct side reference = {
-    "ref", ref_check_tables, ref_check_site, ref_frame, ref_place, ref_poll,
+    "ref", ref_check_tables, ref_check_site, ref_frame, ref_place, ref_due, ref_poll,
     ref_station_fresh, ref_station_lock, ref_station_unlock, ref_station_clear,
     ref_station_frame, ref_station_reply
 };
@@ -59,7 +68,7 @@ static struct inputs inputs;
 static uint8_t locks[LOCKS], stations[STATIONS], state[STATE_LEN];
 
 enum what {
-    NOTHING, CHECK_TABLES, CHECK_SITE, PLACE, FRAME, POLL,
+    NOTHING, CHECK_TABLES, CHECK_SITE, PLACE, FRAME, DUE, POLL,
     STATION_FRESH, STATION_LOCK, STATION_UNLOCK, STATION_CLEAR, STATION_FRAME, STATION_REPLY
 };
 
@@ -85,6 +94,7 @@ static const struct bench_case cases[] = {
     { "unlock", FRAME, &inputs.full, CODE_UNLOCK, &inputs.idle_empty },
     { "clear", FRAME, &inputs.full, CODE_CLEAR, &inputs.idle_empty },
     { "logout", FRAME, &inputs.full, CODE_LOGOUT, &inputs.idle_empty },
+    { "due", DUE, &inputs.full, 0, &inputs.idle_empty },
     { "poll", POLL, &inputs.full, 0, &inputs.idle_empty },
     { "poll-out", POLL, &inputs.last, 0, &inputs.idle_empty },
     { "check-tables-empty", CHECK_TABLES, &inputs.empty, 0, &inputs.idle_empty },
@@ -178,6 +188,7 @@ static uint64_t call_once(const struct side *side, const struct bench_case *c,
     case FRAME:        return side->frame(number_of(c), frame->bytes, frame->len,
                                           site->bytes, site->len,
                                           locks, LOCKS, stations, STATIONS);
+    case DUE:          return side->due(number_of(c), locks, LOCKS, stations, STATIONS);
     case POLL:         return side->poll(number_of(c), 0, locks, LOCKS, stations, STATIONS);
     case NOTHING:      return 0;
     default:           return call_station(side, c);

@@ -76,9 +76,12 @@ static void in_words(uint8_t *key, unsigned len, const char *format, unsigned i)
 /* Draws until the key has the hash 0. */
 static void draw_hash(struct rng *rng, uint8_t *key, unsigned len, unsigned from, unsigned to)
 {
-    do
+    unsigned long tries = 0;
+    rng_bytes(rng, key + from, to - from);
+    while (hash(key, len) != 0) {
+        try_again(&tries, "a key with the hash 0");
         rng_bytes(rng, key + from, to - from);
-    while (hash(key, len) != 0);
+    }
 }
 
 /* Key i, of 8 or 13 bytes. */

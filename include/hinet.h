@@ -3,12 +3,19 @@
  *
  * The C program owns the wire, the drives, the clock and the boot code. It
  * lends its tables and frames to the entries below. Each entry returns one
- * answer word. The library has no memory of its own: nothing is kept from
- * one call to the next but the bytes in the lent tables.
+ * answer word.
+ *
+ * Compiler and machine
+ *   C99 or C++11. The archive libhinet.a is for x86-64 Linux. It calls
+ *   memcpy, memmove and memset, and nothing else of the C library.
  *
  * Numbers
- *   A number is a uint32_t and is never cut to a byte. 509 is not 253; it is
+ *   A number is 32 bits and is never cut to a byte. 509 is not 253; it is
  *   refused.
+ *
+ * Volume, partition, track and sector
+ *   Each has a type of its own, so that a compiler refuses one where another
+ *   is due: hinet_volume_of(1) is a volume and nothing else.
  *
  * Slices
  *   A slice is a pointer and then its length in bytes.
@@ -16,11 +23,6 @@
  *   A slice of length 0 still points somewhere. NULL is never allowed.
  *   What is lent as const is never written.
  *   Bytes need no alignment.
- *
- * Refusals
- *   A refused call returns its refusal number and nothing else. Every lent
- *   byte then holds what it held before. Where several refusals apply, the
- *   first one in the order given with the entry is returned.
  *
  * The answer word
  *   bits  0 to  7   refusal, 0 for none
@@ -32,6 +34,44 @@
  *
  * Numbers of more than one byte have their low byte first, in answers,
  * frames, tables and the site file alike.
+ *
+ * Refusals
+ *   A refused call returns its refusal number and nothing else. Every lent
+ *   byte then holds what it held before. Where several refusals apply, the
+ *   first one in the order given with the entry is returned.
+ *   After 10 the site file is bad: no frame is served with it. The tables are
+ *   as good as they were, and poll turns go on. Load a good file, and check
+ *   it by hinet_check_site before it takes the place of the old one.
+ *   After 11 the tables, or a station's state, have been written to by
+ *   somebody else, or a length is wrong. No entry mends them. Correct the
+ *   length, or go back to a copy made between two calls, or begin anew with
+ *   hinet_fresh (hinet_station_fresh). After hinet_fresh every station is
+ *   logged out and has to log in again. The entries never bring tables that
+ *   were good to 11.
+ *
+ * Memory, threads, and a call that is cut off
+ *   The library has no memory of its own: nothing is kept from one call to
+ *   the next but the bytes in the lent slices. Calls that are lent different
+ *   tables may run at once; calls that are lent the same may not, but where
+ *   both lend them as const. No entry waits, allocates or fails halfway.
+ *   A call that is cut off midway (power, a killed process) may have written
+ *   some of its bytes and not others. hinet_check_tables then tells whether
+ *   the tables keep the rules; it cannot tell which of two good states they
+ *   are in. To be sure, go back to a copy made between two calls.
+ *
+ * Stack
+ *   Bytes that an entry needs on its deepest path, measured by bench/stack
+ *   (memcpy and the like not counted):
+ *     hinet_poll                                                1680
+ *     hinet_frame                                                496
+ *     hinet_station_frame, _unlock, _reply                       336
+ *     hinet_check_tables, hinet_due, hinet_place,
+ *     hinet_station_lock                                         304
+ *     hinet_check_site, hinet_station_clear                      272
+ *     hinet_write_...                                            120
+ *     hinet_read_frame                                           112
+ *     hinet_fresh                                                 40
+ *     hinet_station_fresh                                         24
  */
 #ifndef HINET_H
 #define HINET_H
@@ -39,9 +79,49 @@
 #include <stddef.h>
 #include <stdint.h>
 
+/* The version of this header and of the archive beside it. */
+#define HINET_VERSION_MAJOR 1
+#define HINET_VERSION_MINOR 0
+#define HINET_VERSION_PATCH 0
+#define HINET_VERSION "1.0.0"
+
 #ifdef __cplusplus
 extern "C" {
 #endif
+
+/* ------------------------------------------------------------------------
+ * The answer word
+ * ------------------------------------------------------------------------ */
+
+/* Refusal numbers. */
+#define HINET_REFUSED_EMPTY 1       /* frame is empty */
+#define HINET_REFUSED_NUMBER 2      /* not 0 to 63 or 253, or not logged in */
+#define HINET_REFUSED_CODE 3        /* code is not in the frame table */
+#define HINET_REFUSED_LENGTH 4      /* length is not that of the code */
+#define HINET_REFUSED_COMMAND 5     /* not at this number: login not at 253,
+                                       another command at 253, logout at 0,
+                                       poll turn at 0 or 253 */
+#define HINET_REFUSED_DTN 6         /* dtn is not 0 */
+#define HINET_REFUSED_SRC 7         /* src differs from the number polled */
+#define HINET_REFUSED_NO_ROW 8      /* volume and partition name no row */
+#define HINET_REFUSED_OUTSIDE 9     /* track or sector outside the partition */
+#define HINET_REFUSED_SITE 10       /* site file */
+#define HINET_REFUSED_TABLES 11     /* tables or station state of another size
+                                       or with a breach */
+#define HINET_REFUSED_NOT_DUE 12    /* heard in a turn that was not due */
+#define HINET_REFUSED_BUFFER 13     /* buffer too short for the frame */
+#define HINET_REFUSED_WAITING 14    /* station asks while waiting */
+#define HINET_REFUSED_REPLY 15      /* reply not fitting: hinet_station_reply */
+
+/* Kinds of answer, with their bytes. */
+#define HINET_KIND_NONE 0           /* no bytes */
+#define HINET_KIND_STATUS 1         /* status */
+#define HINET_KIND_ASSIGN 2         /* size code, partition, control, volume */
+#define HINET_KIND_PLACE 3          /* volume, sector (4) */
+#define HINET_KIND_LOGIN 4          /* number, name found (0 or 1), serial (4) */
+#define HINET_KIND_TURN 5           /* due (0 or 1), logged out (0 or 1) */
+#define HINET_KIND_WRITTEN 6        /* length */
+#define HINET_KIND_REQUEST 13       /* code */
 
 /* The refusal number of an answer, 0 for none. */
 static inline unsigned hinet_answer_refusal(uint64_t answer)
@@ -61,8 +141,254 @@ static inline uint8_t hinet_answer_byte(uint64_t answer, unsigned i)
     return (uint8_t)(answer >> (16 + 8 * i) & 0xFF);
 }
 
+/* What a refusal number means, as text in English. */
+static inline const char *hinet_refusal_text(unsigned refusal)
+{
+    switch (refusal) {
+    case 0:                      return "not refused";
+    case HINET_REFUSED_EMPTY:    return "the frame is empty";
+    case HINET_REFUSED_NUMBER:   return "the number is not 0 to 63 or 253, or is not logged in";
+    case HINET_REFUSED_CODE:     return "the code is not in the frame table";
+    case HINET_REFUSED_LENGTH:   return "the frame's length is not that of its code";
+    case HINET_REFUSED_COMMAND:  return "the command is not for this number";
+    case HINET_REFUSED_DTN:      return "dtn is not 0";
+    case HINET_REFUSED_SRC:      return "src differs from the number polled";
+    case HINET_REFUSED_NO_ROW:   return "volume and partition name no row of the site file";
+    case HINET_REFUSED_OUTSIDE:  return "track or sector is outside the partition";
+    case HINET_REFUSED_SITE:     return "the site file breaks a rule";
+    case HINET_REFUSED_TABLES:   return "the tables or the station's state break a rule";
+    case HINET_REFUSED_NOT_DUE:  return "heard in a turn that was not due";
+    case HINET_REFUSED_BUFFER:   return "the buffer is too short for the frame";
+    case HINET_REFUSED_WAITING:  return "the station asks while it waits for a reply";
+    case HINET_REFUSED_REPLY:    return "the reply does not fit what the station waits for";
+    default:                     return "no refusal number";
+    }
+}
+
 /* ------------------------------------------------------------------------
- * (a) Tables, site file, frames, places
+ * Volume, partition, track and sector
+ * ------------------------------------------------------------------------
+ *
+ * Four types, each with one number. A disk command on the wire has the
+ * partition first and the volume last; the answer to an assign has the
+ * partition second and the volume last. With these types and the functions
+ * that read and write the fields by name, no C program needs to know.
+ */
+typedef struct { uint32_t number; } hinet_volume;
+typedef struct { uint32_t number; } hinet_partition;
+typedef struct { uint32_t number; } hinet_track;
+typedef struct { uint32_t number; } hinet_sector;
+
+static inline hinet_volume hinet_volume_of(uint32_t number)
+{
+    hinet_volume volume;
+    volume.number = number;
+    return volume;
+}
+
+static inline hinet_partition hinet_partition_of(uint32_t number)
+{
+    hinet_partition partition;
+    partition.number = number;
+    return partition;
+}
+
+static inline hinet_track hinet_track_of(uint32_t number)
+{
+    hinet_track track;
+    track.number = number;
+    return track;
+}
+
+/* A sector of a track, counted from 1 to 128. */
+static inline hinet_sector hinet_sector_of(uint32_t number)
+{
+    hinet_sector sector;
+    sector.number = number;
+    return sector;
+}
+
+/* ------------------------------------------------------------------------
+ * Request frames
+ * ------------------------------------------------------------------------
+ *
+ * A frame is the data part, without user number, CRC or flags.
+ *
+ *   41 acknowledge      41
+ *   11 read 128         11 dtn src dsk trk(2) sec vli
+ *   12 write 128        12 dtn src dsk trk(2) sec vli
+ *   13 login            13 name(8) password(6) serial(4) product
+ *   17 assign           17 name(8) password(6)
+ *   19 lock             19 len string(13)
+ *   1A unlock           1A len string(13)
+ *   1B clear all locks  1B
+ *   1F instant logout   1F src
+ *
+ * dtn is 0, dsk is the partition number, vli is the volume. A lock string is
+ * 14 bytes, its length first; the bytes after its length travel with it and
+ * mean nothing.
+ */
+
+/* Codes of request frames, and the length of each frame. */
+#define HINET_CODE_ACKNOWLEDGE 0x41
+#define HINET_CODE_READ 0x11
+#define HINET_CODE_WRITE 0x12
+#define HINET_CODE_LOGIN 0x13
+#define HINET_CODE_ASSIGN 0x17
+#define HINET_CODE_LOCK 0x19
+#define HINET_CODE_UNLOCK 0x1A
+#define HINET_CODE_CLEAR 0x1B
+#define HINET_CODE_LOGOUT 0x1F
+
+#define HINET_LENGTH_ACKNOWLEDGE 1
+#define HINET_LENGTH_READ 8
+#define HINET_LENGTH_WRITE 8
+#define HINET_LENGTH_LOGIN 20
+#define HINET_LENGTH_ASSIGN 15
+#define HINET_LENGTH_LOCK 15
+#define HINET_LENGTH_UNLOCK 15
+#define HINET_LENGTH_CLEAR 1
+#define HINET_LENGTH_LOGOUT 2
+#define HINET_LENGTH_MOST 20
+
+#define HINET_NAME_BYTES 8
+#define HINET_PASSWORD_BYTES 6
+#define HINET_SERIAL_BYTES 4
+#define HINET_LOCKSTRING_BYTES 14
+
+/*
+ * Reads a frame by itself.
+ *
+ * Refusals, in this order: 1 empty, 3 unknown code, 4 length, 6 dtn.
+ * Memory: unchanged.
+ * Answer: REQUEST with the frame's code. The fields of that code are then
+ *   there, and the functions hinet_request_... read them.
+ */
+uint64_t hinet_read_frame(const uint8_t *frame, size_t frame_len);
+
+/* Kind REQUEST: the code, one of HINET_CODE_... */
+static inline uint8_t hinet_answer_code(uint64_t answer)
+{
+    return hinet_answer_byte(answer, 0);
+}
+
+/* Fields of a frame that hinet_read_frame or hinet_frame did not refuse; the
+ * codes that have the field stand with each. */
+
+/* Read, write, logout: the station that sends. */
+static inline uint8_t hinet_request_src(const uint8_t *frame)
+{
+    return frame[0] == HINET_CODE_LOGOUT ? frame[1] : frame[2];
+}
+
+/* Read, write. */
+static inline hinet_volume hinet_request_volume(const uint8_t *frame)
+{
+    return hinet_volume_of(frame[7]);
+}
+
+/* Read, write. */
+static inline hinet_partition hinet_request_partition(const uint8_t *frame)
+{
+    return hinet_partition_of(frame[3]);
+}
+
+/* Read, write. */
+static inline hinet_track hinet_request_track(const uint8_t *frame)
+{
+    return hinet_track_of(frame[4] | (uint32_t)frame[5] << 8);
+}
+
+/* Read, write. */
+static inline hinet_sector hinet_request_sector(const uint8_t *frame)
+{
+    return hinet_sector_of(frame[6]);
+}
+
+/* Login, assign: the eight bytes of the name. */
+static inline const uint8_t *hinet_request_name(const uint8_t *frame)
+{
+    return frame + 1;
+}
+
+/* Login, assign: the six bytes of the password. */
+static inline const uint8_t *hinet_request_password(const uint8_t *frame)
+{
+    return frame + 9;
+}
+
+/* Login: the four bytes of the serial. */
+static inline const uint8_t *hinet_request_serial(const uint8_t *frame)
+{
+    return frame + 15;
+}
+
+/* Login. */
+static inline uint8_t hinet_request_product(const uint8_t *frame)
+{
+    return frame[19];
+}
+
+/* Lock, unlock: the lock string, 14 bytes. */
+static inline const uint8_t *hinet_request_lockstring(const uint8_t *frame)
+{
+    return frame + 1;
+}
+
+/*
+ * Each of these writes a request frame at the start of the buffer.
+ *
+ * Refusals: 13 exactly when buffer_len is below the frame's HINET_LENGTH_...
+ * Memory: the buffer holds the frame; the bytes after it stay.
+ * Answer: WRITTEN with the frame's length.
+ *
+ * Any numbers and bytes are written. A src, volume, partition or sector above
+ * 255 does not fit its byte and is written as 255, a track above 65535 as
+ * 65535. Those are no station's, no row's and outside of every partition, as
+ * the number itself is, so the master refuses the frame with 7, 8 or 9.
+ */
+uint64_t hinet_write_acknowledge(uint8_t *buffer, size_t buffer_len);
+
+uint64_t hinet_write_read(uint32_t src,
+                          hinet_volume volume, hinet_partition partition,
+                          hinet_track track, hinet_sector sector,
+                          uint8_t *buffer, size_t buffer_len);
+
+uint64_t hinet_write_write(uint32_t src,
+                           hinet_volume volume, hinet_partition partition,
+                           hinet_track track, hinet_sector sector,
+                           uint8_t *buffer, size_t buffer_len);
+
+uint64_t hinet_write_login(const uint8_t name[HINET_NAME_BYTES],
+                           const uint8_t password[HINET_PASSWORD_BYTES],
+                           const uint8_t serial[HINET_SERIAL_BYTES],
+                           uint8_t product,
+                           uint8_t *buffer, size_t buffer_len);
+
+uint64_t hinet_write_assign(const uint8_t name[HINET_NAME_BYTES],
+                            const uint8_t password[HINET_PASSWORD_BYTES],
+                            uint8_t *buffer, size_t buffer_len);
+
+/* A station that keeps a list of its locks does not call these three: it asks
+ * by hinet_station_lock, _unlock or _clear and sends hinet_station_frame's. */
+uint64_t hinet_write_lock(const uint8_t lockstring[HINET_LOCKSTRING_BYTES],
+                          uint8_t *buffer, size_t buffer_len);
+
+uint64_t hinet_write_unlock(const uint8_t lockstring[HINET_LOCKSTRING_BYTES],
+                            uint8_t *buffer, size_t buffer_len);
+
+uint64_t hinet_write_clear(uint8_t *buffer, size_t buffer_len);
+
+uint64_t hinet_write_logout(uint32_t src, uint8_t *buffer, size_t buffer_len);
+
+/* Kind WRITTEN: the length of the frame written. */
+static inline uint8_t hinet_answer_length(uint64_t answer)
+{
+    return hinet_answer_byte(answer, 0);
+}
+
+/* ------------------------------------------------------------------------
+ * The master: tables, site file, frames, places
  * ------------------------------------------------------------------------
  *
  * Lock table: 64 rows of 16 bytes.
@@ -118,27 +444,6 @@ static inline uint8_t hinet_answer_byte(uint64_t answer, unsigned i)
 #define HINET_NUMBER_LAST 63
 #define HINET_NUMBER_LOGIN 253
 
-/* Codes of request frames, and the length of each frame. */
-#define HINET_CODE_ACKNOWLEDGE 0x41
-#define HINET_CODE_READ 0x11
-#define HINET_CODE_WRITE 0x12
-#define HINET_CODE_LOGIN 0x13
-#define HINET_CODE_ASSIGN 0x17
-#define HINET_CODE_LOCK 0x19
-#define HINET_CODE_UNLOCK 0x1A
-#define HINET_CODE_CLEAR 0x1B
-#define HINET_CODE_LOGOUT 0x1F
-
-#define HINET_LENGTH_ACKNOWLEDGE 1
-#define HINET_LENGTH_READ 8
-#define HINET_LENGTH_WRITE 8
-#define HINET_LENGTH_LOGIN 20
-#define HINET_LENGTH_ASSIGN 15
-#define HINET_LENGTH_LOCK 15
-#define HINET_LENGTH_UNLOCK 15
-#define HINET_LENGTH_CLEAR 1
-#define HINET_LENGTH_LOGOUT 2
-
 /* Status bytes that answer lock, unlock and clear. */
 #define HINET_STATUS_DONE 0x00      /* lock granted, string freed, locks cleared */
 #define HINET_STATUS_TAKEN 0x01     /* lock: held by another */
@@ -149,26 +454,63 @@ static inline uint8_t hinet_answer_byte(uint64_t answer, unsigned i)
 /* Size code in the answer to an assign that was denied. */
 #define HINET_ASSIGN_DENIED 0xFF
 
-/* Refusal numbers of this section. */
-#define HINET_REFUSED_EMPTY 1       /* frame is empty */
-#define HINET_REFUSED_NUMBER 2      /* not 0 to 63 or 253, or not logged in */
-#define HINET_REFUSED_CODE 3        /* code is not one of the above */
-#define HINET_REFUSED_LENGTH 4      /* length is not that of the code */
-#define HINET_REFUSED_COMMAND 5     /* not at this number: login not at 253,
-                                       another command at 253, logout at 0 */
-#define HINET_REFUSED_DTN 6         /* dtn is not 0 */
-#define HINET_REFUSED_SRC 7         /* src differs from the number polled */
-#define HINET_REFUSED_NO_ROW 8      /* volume and partition name no row */
-#define HINET_REFUSED_OUTSIDE 9     /* track or sector outside the partition */
-#define HINET_REFUSED_SITE 10       /* site file */
-#define HINET_REFUSED_TABLES 11     /* tables of another size or with a breach */
+/* Fields of a lock table of 1024 bytes; row is 0 to 63. */
 
-/* Kinds of answer of this section, with their bytes. */
-#define HINET_KIND_NONE 0           /* no bytes */
-#define HINET_KIND_STATUS 1         /* status */
-#define HINET_KIND_ASSIGN 2         /* size code, partition, control, volume */
-#define HINET_KIND_PLACE 3          /* volume, sector (4) */
-#define HINET_KIND_LOGIN 4          /* number, name found (0 or 1), serial (4) */
+/* The owner, or HINET_NO_OWNER. */
+static inline uint8_t hinet_row_owner(const uint8_t *locks, unsigned row)
+{
+    return locks[HINET_LOCK_ROW_BYTES * row];
+}
+
+/* The lock string, 14 bytes, its length first. */
+static inline const uint8_t *hinet_row_lockstring(const uint8_t *locks, unsigned row)
+{
+    return locks + HINET_LOCK_ROW_BYTES * row + 1;
+}
+
+/* Fields of station records of 1152 bytes; number is 0 to 63. */
+
+/* 1 when the number is logged in, else 0. */
+static inline uint8_t hinet_record_logged_in(const uint8_t *stations, unsigned number)
+{
+    return stations[HINET_STATION_RECORD_BYTES * number];
+}
+
+static inline unsigned hinet_record_misses(const uint8_t *stations, unsigned number)
+{
+    const uint8_t *record = stations + HINET_STATION_RECORD_BYTES * number;
+    return record[1] | (unsigned)record[2] << 8;
+}
+
+static inline uint8_t hinet_record_slow_turns(const uint8_t *stations, unsigned number)
+{
+    return stations[HINET_STATION_RECORD_BYTES * number + 3];
+}
+
+/* The eight bytes of the name. */
+static inline const uint8_t *hinet_record_name(const uint8_t *stations, unsigned number)
+{
+    return stations + HINET_STATION_RECORD_BYTES * number + 4;
+}
+
+/* The four bytes of the serial. */
+static inline const uint8_t *hinet_record_serial(const uint8_t *stations, unsigned number)
+{
+    return stations + HINET_STATION_RECORD_BYTES * number + 12;
+}
+
+static inline uint8_t hinet_record_product(const uint8_t *stations, unsigned number)
+{
+    return stations[HINET_STATION_RECORD_BYTES * number + 16];
+}
+
+/* 1 when a user row had the name and password sent at login, else 0. */
+static inline uint8_t hinet_record_found(const uint8_t *stations, unsigned number)
+{
+    return stations[HINET_STATION_RECORD_BYTES * number + 17];
+}
+
+/* The fields of an answer, by its kind. */
 
 /* Kind STATUS: one of HINET_STATUS_... */
 static inline uint8_t hinet_answer_status(uint64_t answer)
@@ -182,10 +524,10 @@ static inline uint8_t hinet_answer_assign_size(uint64_t answer)
     return hinet_answer_byte(answer, 0);
 }
 
-/* Kind ASSIGN: the partition number. */
-static inline uint8_t hinet_answer_assign_partition(uint64_t answer)
+/* Kind ASSIGN: the partition. */
+static inline hinet_partition hinet_answer_assign_partition(uint64_t answer)
 {
-    return hinet_answer_byte(answer, 1);
+    return hinet_partition_of(hinet_answer_byte(answer, 1));
 }
 
 /* Kind ASSIGN: the control byte. */
@@ -195,18 +537,19 @@ static inline uint8_t hinet_answer_assign_control(uint64_t answer)
 }
 
 /* Kind ASSIGN: the volume. */
-static inline uint8_t hinet_answer_assign_volume(uint64_t answer)
+static inline hinet_volume hinet_answer_assign_volume(uint64_t answer)
 {
-    return hinet_answer_byte(answer, 3);
+    return hinet_volume_of(hinet_answer_byte(answer, 3));
 }
 
 /* Kind PLACE: the volume. */
-static inline uint8_t hinet_answer_place_volume(uint64_t answer)
+static inline hinet_volume hinet_answer_place_volume(uint64_t answer)
 {
-    return hinet_answer_byte(answer, 0);
+    return hinet_volume_of(hinet_answer_byte(answer, 0));
 }
 
-/* Kind PLACE: the sector, counted from the start of the volume. */
+/* Kind PLACE: the sector, counted from 0 at the start of the volume. It is no
+ * hinet_sector, which counts in a track. */
 static inline uint32_t hinet_answer_place_sector(uint64_t answer)
 {
     return (uint32_t)(answer >> 24 & 0xFFFFFFFFu);
@@ -225,10 +568,11 @@ static inline uint8_t hinet_answer_login_found(uint64_t answer)
 }
 
 /* Kind LOGIN: the four serial bytes as sent. */
-static inline void hinet_answer_login_serial(uint64_t answer, uint8_t serial[4])
+static inline void hinet_answer_login_serial(uint64_t answer,
+                                             uint8_t serial[HINET_SERIAL_BYTES])
 {
     unsigned i;
-    for (i = 0; i < 4; i++)
+    for (i = 0; i < HINET_SERIAL_BYTES; i++)
         serial[i] = hinet_answer_byte(answer, 2 + i);
 }
 
@@ -263,20 +607,7 @@ uint64_t hinet_check_tables(const uint8_t *locks, size_t locks_len,
 uint64_t hinet_check_site(const uint8_t *site, size_t site_len);
 
 /*
- * Serves one request frame that came at the number polled. The frame is the
- * data part, without user number, CRC or flags.
- *
- *   41 acknowledge      41
- *   11 read 128         11 dtn src dsk trk(2) sec vli
- *   12 write 128        12 dtn src dsk trk(2) sec vli
- *   13 login            13 name(8) password(6) serial(4) product
- *   17 assign           17 name(8) password(6)
- *   19 lock             19 len string(13)
- *   1A unlock           1A len string(13)
- *   1B clear all locks  1B
- *   1F instant logout   1F src
- *
- * dtn is 0, dsk is the partition number, vli is the volume.
+ * Serves one request frame that came at the number polled.
  *
  * Refusals, in this order:
  *   11  tables
@@ -332,23 +663,30 @@ uint64_t hinet_frame(uint32_t number,
  * Memory: unchanged.
  * Answer: PLACE.
  */
-uint64_t hinet_place(uint32_t volume, uint32_t partition,
-                     uint32_t track, uint32_t sector,
+uint64_t hinet_place(hinet_volume volume, hinet_partition partition,
+                     hinet_track track, hinet_sector sector,
                      const uint8_t *site, size_t site_len);
 
 /* ------------------------------------------------------------------------
- * (b) Poll turns
+ * The master: poll turns
  * ------------------------------------------------------------------------
  *
- * In one exchange the poll turn is called before the frame: a logout frame
- * ends the number, and a poll turn after it would be refused.
+ * One round of the main loop, for each number from 1 to 63 that is logged in:
+ *   1. hinet_due tells whether the station is polled on the wire at all.
+ *   2. Where it is due, poll it, and wait for its frame until the time-out.
+ *   3. hinet_poll takes whether it was heard; not due is not heard.
+ *   4. Where it was heard, hinet_frame takes its frame, and the answer is
+ *      sent. The poll turn comes first: a logout frame ends the number, and a
+ *      poll turn after it would be refused.
+ * Then 253 is polled for logins, and only hinet_frame is called.
+ * tests/worked_loop.c is such a loop.
+ *
+ * The answer belongs to the exchange of its own frame. The driver sends it
+ * then or never: an answer that is sent later would be taken for that to the
+ * next frame. A station's driver drops whatever comes after its own time-out.
+ * What this library promises about locks rests on that (see the station's end
+ * below): what a station lists is then locked in its name.
  */
-
-/* Refusal number of this section. */
-#define HINET_REFUSED_NOT_DUE 12    /* heard in a turn that was not due */
-
-/* Kind of answer of this section, with its bytes. */
-#define HINET_KIND_TURN 5           /* due (0 or 1), logged out (0 or 1) */
 
 /* Kind TURN: 1 when the station was due in this turn, else 0. */
 static inline uint8_t hinet_answer_due(uint64_t answer)
@@ -361,6 +699,20 @@ static inline uint8_t hinet_answer_out(uint64_t answer)
 {
     return hinet_answer_byte(answer, 1);
 }
+
+/*
+ * Is a station due in its next poll turn?
+ *
+ * Refusals, in this order:
+ *   11  tables
+ *    2  number is not 0 to 63 or 253, or is 0 to 63 and not logged in
+ *    5  number is 0 or 253
+ * Memory: unchanged.
+ * Answer: TURN with due as hinet_poll will tell it, and out 0.
+ */
+uint64_t hinet_due(uint32_t number,
+                   const uint8_t *locks, size_t locks_len,
+                   const uint8_t *stations, size_t stations_len);
 
 /*
  * Plays one poll turn of a station. heard is 0 for not heard; any other
@@ -387,12 +739,12 @@ uint64_t hinet_poll(uint32_t number, uint32_t heard,
                     uint8_t *stations, size_t stations_len);
 
 /* ------------------------------------------------------------------------
- * (c) The station's end of the lock exchange
+ * The station's end of the lock exchange
  * ------------------------------------------------------------------------
  *
  * Station state: 911 bytes.
- *   0 - 895    the list of locks: 64 places of 14 bytes, each a length and
- *              13 string bytes. A place of length 0 is unused and zero, and
+ *   0 - 895    the list of locks: 64 places of 14 bytes, each a lock string,
+ *              its length first. A place of length 0 is unused and zero, and
  *              none used follows it. Used places have length 1 to 13 and
  *              zeros after the string. No string stands twice.
  *   896 - 910  the frame awaited: code, length, 13 bytes as asked. For clear
@@ -404,6 +756,14 @@ uint64_t hinet_poll(uint32_t number, uint32_t heard,
  * not. Where a reply was lost, the same frame is sent again and the next one
  * settles it: a lock that was granted is then answered 81, an unlock 02.
  *
+ * A status byte does not say which frame it answers. One that comes late,
+ * after the driver's time-out, is taken for the reply to whatever is awaited
+ * then, and a lock may be listed that is not held: tests/worked_station.c
+ * shows it. So the driver drops what comes after its time-out. Where it does,
+ * and from the login until the master logs the station out, every lock on the
+ * list is the master's in the station's name, and while no reply is awaited
+ * both hold the same strings.
+ *
  * The list and the frame awaited are judged each by itself: a state is not
  * refused because a frame is awaited that does not fit the list.
  */
@@ -414,20 +774,20 @@ uint64_t hinet_poll(uint32_t number, uint32_t heard,
 #define HINET_STATE_AWAITED_BYTES 15
 #define HINET_STATE_BYTES 911
 
-#define HINET_LOCKSTRING_BYTES 14
+/* Fields of a state of 911 bytes. */
 
-/* Refusal numbers of this section. 11 is given for the state. */
-#define HINET_REFUSED_BUFFER 13     /* buffer too short for the frame */
-#define HINET_REFUSED_WAITING 14    /* station asks while waiting */
-#define HINET_REFUSED_REPLY 15      /* reply not fitting, see below */
-
-/* Kind of answer of this section, with its bytes. */
-#define HINET_KIND_WRITTEN 6        /* length */
-
-/* Kind WRITTEN: the length of the frame written, 0 when none is awaited. */
-static inline uint8_t hinet_answer_length(uint64_t answer)
+/* The lock string at a place from 0 to 63, 14 bytes, its length first. Length
+ * 0 is an unused place. */
+static inline const uint8_t *hinet_state_lockstring(const uint8_t *station, unsigned place)
 {
-    return hinet_answer_byte(answer, 0);
+    return station + HINET_STATE_PLACE_BYTES * place;
+}
+
+/* The code of the frame awaited, HINET_CODE_LOCK, _UNLOCK or _CLEAR, or 0 when
+ * no reply is awaited. */
+static inline uint8_t hinet_state_awaited(const uint8_t *station)
+{
+    return station[HINET_STATE_AWAITED];
 }
 
 /*

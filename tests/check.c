@@ -59,7 +59,9 @@ enum outcome {
     PLACE,
     LOGIN_FOUND, LOGIN_UNKNOWN, LOGIN_FULL,
     TURN_NOT_DUE, TURN_DUE, TURN_OUT,
-    WRITTEN_0, WRITTEN_1, WRITTEN_15,
+    WRITTEN_0, WRITTEN_1, WRITTEN_2, WRITTEN_8, WRITTEN_15, WRITTEN_20,
+    REQUEST_41, REQUEST_11, REQUEST_12, REQUEST_13, REQUEST_17, REQUEST_19,
+    REQUEST_1A, REQUEST_1B, REQUEST_1F,
     OUTCOMES
 };
 
@@ -75,7 +77,13 @@ static const char *const outcome_names[OUTCOMES] = {
     [TURN_NOT_DUE] = "kind 5, not due", [TURN_DUE] = "kind 5, due",
     [TURN_OUT] = "kind 5, due and out",
     [WRITTEN_0] = "kind 6, length 0", [WRITTEN_1] = "kind 6, length 1",
-    [WRITTEN_15] = "kind 6, length 15"
+    [WRITTEN_2] = "kind 6, length 2", [WRITTEN_8] = "kind 6, length 8",
+    [WRITTEN_15] = "kind 6, length 15", [WRITTEN_20] = "kind 6, length 20",
+    [REQUEST_41] = "kind 13, code 41", [REQUEST_11] = "kind 13, code 11",
+    [REQUEST_12] = "kind 13, code 12", [REQUEST_13] = "kind 13, code 13",
+    [REQUEST_17] = "kind 13, code 17", [REQUEST_19] = "kind 13, code 19",
+    [REQUEST_1A] = "kind 13, code 1A", [REQUEST_1B] = "kind 13, code 1B",
+    [REQUEST_1F] = "kind 13, code 1F"
 };
 
 #define BIT(outcome) ((uint64_t)1 << (outcome))
@@ -91,6 +99,19 @@ static const struct {
     [ENTRY_CHECK_SITE] = { "hinet_check_site", BIT(10) | BIT(NONE) },
     [ENTRY_FRAME] = { "hinet_frame", BITS(1, 11) | BITS(NONE, LOGIN_FULL) },
     [ENTRY_PLACE] = { "hinet_place", BITS(8, 10) | BIT(PLACE) },
+    [ENTRY_READ_FRAME] = { "hinet_read_frame",
+        BIT(1) | BIT(3) | BIT(4) | BIT(6) | BITS(REQUEST_41, REQUEST_1F) },
+    [ENTRY_WRITE_ACKNOWLEDGE] = { "hinet_write_acknowledge", BIT(13) | BIT(WRITTEN_1) },
+    [ENTRY_WRITE_READ] = { "hinet_write_read", BIT(13) | BIT(WRITTEN_8) },
+    [ENTRY_WRITE_WRITE] = { "hinet_write_write", BIT(13) | BIT(WRITTEN_8) },
+    [ENTRY_WRITE_LOGIN] = { "hinet_write_login", BIT(13) | BIT(WRITTEN_20) },
+    [ENTRY_WRITE_ASSIGN] = { "hinet_write_assign", BIT(13) | BIT(WRITTEN_15) },
+    [ENTRY_WRITE_LOCK] = { "hinet_write_lock", BIT(13) | BIT(WRITTEN_15) },
+    [ENTRY_WRITE_UNLOCK] = { "hinet_write_unlock", BIT(13) | BIT(WRITTEN_15) },
+    [ENTRY_WRITE_CLEAR] = { "hinet_write_clear", BIT(13) | BIT(WRITTEN_1) },
+    [ENTRY_WRITE_LOGOUT] = { "hinet_write_logout", BIT(13) | BIT(WRITTEN_2) },
+    [ENTRY_DUE] = { "hinet_due",
+        BIT(11) | BIT(2) | BIT(5) | BIT(TURN_NOT_DUE) | BIT(TURN_DUE) },
     [ENTRY_POLL] = { "hinet_poll",
         BIT(11) | BIT(2) | BIT(5) | BIT(12) | BITS(TURN_NOT_DUE, TURN_OUT) },
     [ENTRY_STATION_FRESH] = { "hinet_station_fresh", BIT(11) | BIT(NONE) },
@@ -98,7 +119,7 @@ static const struct {
     [ENTRY_STATION_UNLOCK] = { "hinet_station_unlock", BIT(11) | BIT(14) | BIT(NONE) },
     [ENTRY_STATION_CLEAR] = { "hinet_station_clear", BIT(11) | BIT(14) | BIT(NONE) },
     [ENTRY_STATION_FRAME] = { "hinet_station_frame",
-        BIT(11) | BIT(13) | BITS(WRITTEN_0, WRITTEN_15) },
+        BIT(11) | BIT(13) | BIT(WRITTEN_0) | BIT(WRITTEN_1) | BIT(WRITTEN_15) },
     [ENTRY_STATION_REPLY] = { "hinet_station_reply", BIT(11) | BIT(15) | BIT(NONE) }
 };
 
@@ -128,11 +149,15 @@ static enum outcome login_outcome(uint64_t answer)
     return answer_byte(answer, 1) != 0 ? LOGIN_FOUND : LOGIN_UNKNOWN;
 }
 
+/* A turn by due and out. */
 static enum outcome turn_outcome(uint64_t answer)
 {
-    if (answer_byte(answer, 0) == 0)
-        return TURN_NOT_DUE;
-    return answer_byte(answer, 1) != 0 ? TURN_OUT : TURN_DUE;
+    switch (answer_byte(answer, 0) << 8 | answer_byte(answer, 1)) {
+    case 0x0000: return TURN_NOT_DUE;
+    case 0x0100: return TURN_DUE;
+    case 0x0101: return TURN_OUT;
+    default:     return OUTCOMES;
+    }
 }
 
 static enum outcome written_outcome(uint64_t answer)
@@ -140,8 +165,27 @@ static enum outcome written_outcome(uint64_t answer)
     switch (answer_byte(answer, 0)) {
     case 0:  return WRITTEN_0;
     case 1:  return WRITTEN_1;
+    case 2:  return WRITTEN_2;
+    case 8:  return WRITTEN_8;
     case 15: return WRITTEN_15;
+    case 20: return WRITTEN_20;
     default: return OUTCOMES;
+    }
+}
+
+static enum outcome request_outcome(uint64_t answer)
+{
+    switch (answer_byte(answer, 0)) {
+    case 0x41: return REQUEST_41;
+    case 0x11: return REQUEST_11;
+    case 0x12: return REQUEST_12;
+    case 0x13: return REQUEST_13;
+    case 0x17: return REQUEST_17;
+    case 0x19: return REQUEST_19;
+    case 0x1A: return REQUEST_1A;
+    case 0x1B: return REQUEST_1B;
+    case 0x1F: return REQUEST_1F;
+    default:   return OUTCOMES;
     }
 }
 
@@ -159,18 +203,23 @@ static enum outcome outcome_of(uint64_t answer)
     case 4:  return login_outcome(answer);
     case 5:  return turn_outcome(answer);
     case 6:  return written_outcome(answer);
+    case 13: return request_outcome(answer);
     default: return OUTCOMES;
     }
 }
 
-/* Are the bits above the answer's own bytes zero? */
+/* Are the bits above the answer's own bytes zero? No kind above 13 and none
+ * from 7 to 12 has an answer. */
 static int nothing_above(uint64_t answer)
 {
-    static const unsigned bytes[7] = { 0, 1, 4, 5, 6, 2, 1 };
+    enum { NO_KIND = 7, KINDS = 14 };
+    static const unsigned bytes[KINDS] = {
+        0, 1, 4, 5, 6, 2, 1, NO_KIND, NO_KIND, NO_KIND, NO_KIND, NO_KIND, NO_KIND, 1
+    };
     unsigned kind = (unsigned)(answer >> 8 & 0xFF);
     if ((answer & 0xFF) != 0)
         return answer >> 8 == 0;
-    if (kind > 6)
+    if (kind >= KINDS || bytes[kind] == NO_KIND)
         return 0;
     return bytes[kind] == 6 || answer >> (16 + 8 * bytes[kind]) == 0;
 }
@@ -239,7 +288,7 @@ void check_call(const struct call *call)
     last_call = *call;
     trace.step++;
     if (!nothing_above(call->library))
-        fail("the answer has bits above its bytes");
+        fail("no such kind, or bits above the answer's bytes");
     for (unsigned i = 0; i < call->parts; i++)
         check_part(call, &call->part[i]);
     if (call->library != call->reference)
@@ -252,8 +301,14 @@ void check_call(const struct call *call)
 
 void expect_refusal(unsigned refusal)
 {
-    if ((last_call.library & 0xFF) != refusal)
-        fail("not the refusal that this input was made for");
+    expect((last_call.library & 0xFF) == refusal,
+           "not the refusal that this input was made for");
+}
+
+void expect(int true_here, const char *reason)
+{
+    if (!true_here)
+        fail(reason);
 }
 
 /* ---- start and end of a driver ---- */

@@ -26,7 +26,11 @@ void lend_again(struct lent *slice);
 
 enum entry {
     ENTRY_FRESH, ENTRY_CHECK_TABLES, ENTRY_CHECK_SITE, ENTRY_FRAME, ENTRY_PLACE,
-    ENTRY_POLL,
+    ENTRY_READ_FRAME,
+    ENTRY_WRITE_ACKNOWLEDGE, ENTRY_WRITE_READ, ENTRY_WRITE_WRITE,
+    ENTRY_WRITE_LOGIN, ENTRY_WRITE_ASSIGN, ENTRY_WRITE_LOCK,
+    ENTRY_WRITE_UNLOCK, ENTRY_WRITE_CLEAR, ENTRY_WRITE_LOGOUT,
+    ENTRY_DUE, ENTRY_POLL,
     ENTRY_STATION_FRESH, ENTRY_STATION_LOCK, ENTRY_STATION_UNLOCK,
     ENTRY_STATION_CLEAR, ENTRY_STATION_FRAME, ENTRY_STATION_REPLY,
     ENTRIES
@@ -43,7 +47,7 @@ struct part {
 struct call {
     enum entry entry;
     unsigned numbers;
-    uint32_t number[4];
+    uint32_t number[5];
     unsigned parts;
     struct part part[4];
     uint64_t library;
@@ -62,6 +66,9 @@ void expect_refusal(unsigned refusal);
 
 /* Ends the program with a reason and the inputs of the last call. */
 void fail(const char *reason);
+
+/* Fails with this reason where it is not true. */
+void expect(int true_here, const char *reason);
 
 /* Where a driver stands, for the dump. */
 struct trace {

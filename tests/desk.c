@@ -39,6 +39,12 @@ void desk_lend_tables(struct call *call)
     add_part(call, "stations", &desk.stations, desk.ref_stations);
 }
 
+void desk_lend_tables_const(struct call *call)
+{
+    add_part(call, "locks", &desk.locks, NULL);
+    add_part(call, "stations", &desk.stations, NULL);
+}
+
 uint64_t desk_fresh(void)
 {
     struct call call = { .entry = ENTRY_FRESH };
@@ -54,8 +60,7 @@ uint64_t desk_fresh(void)
 uint64_t desk_check_tables(void)
 {
     struct call call = { .entry = ENTRY_CHECK_TABLES };
-    add_part(&call, "locks", &desk.locks, NULL);
-    add_part(&call, "stations", &desk.stations, NULL);
+    desk_lend_tables_const(&call);
     call.library = hinet_check_tables(desk.locks.bytes, desk.locks.len,
                                       desk.stations.bytes, desk.stations.len);
     call.reference = ref_check_tables(desk.ref_locks, desk.locks.len,
@@ -99,7 +104,8 @@ uint64_t desk_place(uint32_t volume, uint32_t partition, uint32_t track, uint32_
         .entry = ENTRY_PLACE, .numbers = 4, .number = { volume, partition, track, sector }
     };
     add_part(&call, "site", &desk.site, NULL);
-    call.library = hinet_place(volume, partition, track, sector,
+    call.library = hinet_place(hinet_volume_of(volume), hinet_partition_of(partition),
+                               hinet_track_of(track), hinet_sector_of(sector),
                                desk.site.bytes, desk.site.len);
     call.reference = ref_place(volume, partition, track, sector,
                                desk.site.before, desk.site.len);

@@ -21,8 +21,10 @@ void desk_put_tables(const struct tables *tables);
 /* The station records as they stand, for both sides to be written. */
 void desk_put_stations(const uint8_t *stations);
 
-/* Gives the call its tables and takes their bytes for the copies. */
+/* Gives the call its tables, to be written or as const, and takes their bytes
+ * for the copies. */
 void desk_lend_tables(struct call *call);
+void desk_lend_tables_const(struct call *call);
 
 /* Each returns the answer of both sides. */
 uint64_t desk_fresh(void);

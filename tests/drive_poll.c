@@ -1,6 +1,7 @@
 /*
  * Compares the library with the reference: poll turns, alone and mixed with
- * frames. Usage: drive_poll [rounds [first round]]
+ * frames, and before each of them whether it is due.
+ * Usage: drive_poll [rounds [first round]]
  */
 #include "desk.h"
 #include "hinet.h"
@@ -8,21 +9,48 @@
 
 #include <string.h>
 
-enum { SEED = 160, ROUNDS = 85, RECORD = 18 };
+enum { SEED = 160, ROUNDS = 25, RECORD = 18 };
 
 static struct rng rng;
 static struct site site;
 static struct tables tables;
 static struct frame frame;
 
-static void expect(int true_here, const char *reason)
+static uint64_t due(uint32_t number)
 {
-    if (!true_here)
-        fail(reason);
+    struct call call = { .entry = ENTRY_DUE, .numbers = 1, .number = { number } };
+    desk_lend_tables_const(&call);
+    call.library = hinet_due(number, desk.locks.bytes, desk.locks.len,
+                             desk.stations.bytes, desk.stations.len);
+    call.reference = ref_due(number, desk.ref_locks, desk.locks.len,
+                             desk.ref_stations, desk.stations.len);
+    check_call(&call);
+    return call.library;
+}
+
+/* What was told before a turn is what the turn then tells. */
+static void turn_as_told(uint64_t told, uint64_t turn)
+{
+    switch (hinet_answer_refusal(turn)) {
+    case 0:
+        expect(hinet_answer_kind(turn) == HINET_KIND_TURN, "kind of a turn");
+        expect(hinet_answer_due(told) == hinet_answer_due(turn), "due was told otherwise");
+        break;
+    case HINET_REFUSED_NOT_DUE:
+        expect(hinet_answer_due(told) == 0, "told as due and then refused as not due");
+        break;
+    default:
+        expect(told == turn, "refused otherwise before the turn");
+        return;
+    }
+    expect(hinet_answer_refusal(told) == 0, "refused before a turn that is none of 11, 2, 5");
+    expect(hinet_answer_kind(told) == HINET_KIND_TURN, "kind of due");
+    expect(hinet_answer_out(told) == 0, "out before the turn");
 }
 
 static uint64_t poll_turn(uint32_t number, uint32_t heard)
 {
+    uint64_t told = due(number);
     struct call call = { .entry = ENTRY_POLL, .numbers = 2, .number = { number, heard } };
     desk_lend_tables(&call);
     call.library = hinet_poll(number, heard, desk.locks.bytes, desk.locks.len,
@@ -30,6 +58,7 @@ static uint64_t poll_turn(uint32_t number, uint32_t heard)
     call.reference = ref_poll(number, heard, desk.ref_locks, desk.locks.len,
                               desk.ref_stations, desk.stations.len);
     check_call(&call);
+    turn_as_told(told, call.library);
     return call.library;
 }
 
@@ -131,12 +160,11 @@ static void silent_from(unsigned heard_in)
         poll_turn(number, turn == heard_in);
     for (unsigned turn = 1; turn <= 1312; turn++) {
         uint64_t answer = poll_turn(number, 0);
-        expect(hinet_answer_kind(answer) == HINET_KIND_TURN, "kind of a turn");
         expect(hinet_answer_due(answer) == due_in_turn(turn), "a turn due or not");
         expect(hinet_answer_out(answer) == (turn == 1312), "out before or after turn 1312");
     }
-    for (unsigned i = 0; i < 64; i++)
-        expect(desk.locks.bytes[16 * i] != number, "a lock of a station that is out");
+    for (unsigned i = 0; i < HINET_LOCK_ROWS; i++)
+        expect(hinet_row_owner(desk.locks.bytes, i) != number, "a lock of a station that is out");
     poll_turn(number, 0);
     expect_refusal(2);
 }
@@ -201,5 +229,5 @@ int main(int argc, char **argv)
         silent_stations();
         mixed(20000);
     }
-    return report(ENTRY_POLL, ENTRY_POLL);
+    return report(ENTRY_DUE, ENTRY_POLL);
 }

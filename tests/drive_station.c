@@ -8,15 +8,9 @@
 
 #include <string.h>
 
-enum { SEED = 911, ROUNDS = 75, PLACE = 14, PLACES = 64 };
+enum { SEED = 911, ROUNDS = 28, PLACE = 14, PLACES = 64 };
 
 static struct rng rng;
-
-static void expect(int true_here, const char *reason)
-{
-    if (!true_here)
-        fail(reason);
-}
 
 /* ---- a station and the reference's copy of it ---- */
 
@@ -304,7 +298,9 @@ static void log_in(struct member *m)
 {
     struct frame frame;
     frame_good(&rng, &frame, CODE_LOGIN, 253, &no_rows);
-    m->number = hinet_answer_login_number(desk_frame(253, &frame));
+    uint64_t answer = desk_frame(253, &frame);
+    expect(hinet_answer_kind(answer) == HINET_KIND_LOGIN, "kind of a login");
+    m->number = hinet_answer_login_number(answer);
     fresh(&m->station);
 }
 
@@ -318,7 +314,7 @@ static void log_out(uint8_t number)
 
 static int waiting(const struct member *m)
 {
-    return m->station.lent.bytes[HINET_STATE_AWAITED] != 0;
+    return hinet_state_awaited(m->station.lent.bytes) != 0;
 }
 
 static void ask(struct member *m)
@@ -346,6 +342,7 @@ static void exchange(struct member *m)
         return;
     uint64_t answer = desk_frame(m->number, &frame);
     expect_refusal(0);
+    expect(hinet_answer_kind(answer) == HINET_KIND_STATUS, "kind of a status");
     if (rng_one_in(&rng, 3))
         return;
     reply(&m->station, hinet_answer_status(answer));
@@ -354,28 +351,28 @@ static void exchange(struct member *m)
 
 static int holds(uint8_t number, const uint8_t *place)
 {
-    for (unsigned i = 0; i < 64; i++) {
-        const uint8_t *row = desk.locks.bytes + 16 * i;
-        if (row[0] == number && memcmp(row + 1, place, 14) == 0)
+    for (unsigned i = 0; i < HINET_LOCK_ROWS; i++)
+        if (hinet_row_owner(desk.locks.bytes, i) == number
+            && memcmp(hinet_row_lockstring(desk.locks.bytes, i), place, 14) == 0)
             return 1;
-    }
     return 0;
 }
 
 static unsigned held_count(uint8_t number)
 {
     unsigned count = 0;
-    for (unsigned i = 0; i < 64; i++)
-        count += desk.locks.bytes[16 * i] == number;
+    for (unsigned i = 0; i < HINET_LOCK_ROWS; i++)
+        count += hinet_row_owner(desk.locks.bytes, i) == number;
     return count;
 }
 
 /* What is listed is held; when nothing is awaited, also the other way. */
 static void list_agrees(const struct member *m)
 {
+    const uint8_t *state = m->station.lent.bytes;
     unsigned count = 0;
-    while (count < PLACES && m->station.lent.bytes[PLACE * count] != 0) {
-        expect(holds(m->number, m->station.lent.bytes + PLACE * count), "listed and not held");
+    while (count < HINET_STATE_PLACES && hinet_state_lockstring(state, count)[0] != 0) {
+        expect(holds(m->number, hinet_state_lockstring(state, count)), "listed and not held");
         count++;
     }
     if (!waiting(m))
@@ -432,20 +429,11 @@ static void network(unsigned steps)
     }
 }
 
-static void header_numbers(void)
-{
-    expect(STATE_LEN == HINET_STATE_BYTES, "header: state size");
-    expect(STATE_AWAITED == HINET_STATE_AWAITED, "header: place of the frame awaited");
-    expect(HINET_STATE_PLACES * HINET_STATE_PLACE_BYTES == STATE_AWAITED, "header: the list");
-    expect(HINET_STATE_AWAITED_BYTES == STATE_LEN - STATE_AWAITED, "header: the frame awaited");
-}
-
 int main(int argc, char **argv)
 {
     struct rounds rounds = rounds_from(argc, argv, ROUNDS);
     trace.driver = "drive_station";
     trace.seed = SEED;
-    header_numbers();
     for (trace.round = rounds.first; trace.round < rounds.end; trace.round++) {
         trace.step = 0;
         rng = rng_from(((uint64_t)SEED << 32) + trace.round);

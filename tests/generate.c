@@ -1,6 +1,8 @@
 /* Random numbers and lock strings. */
 #include "generate.h"
 
+#include <stdio.h>
+#include <stdlib.h>
 #include <string.h>
 
 /* ---- random numbers ---- */
@@ -43,6 +45,15 @@ void rng_bytes(struct rng *rng, uint8_t *bytes, size_t count)
 {
     for (size_t i = 0; i < count; i++)
         bytes[i] = rng_byte(rng);
+}
+
+void try_again(unsigned long *tries, const char *wanted)
+{
+    enum { TRIES_MOST = 100000 };
+    if (++*tries < TRIES_MOST)
+        return;
+    fprintf(stderr, "generator: not found in %d tries: %s\n", TRIES_MOST, wanted);
+    exit(1);
 }
 
 /* ---- lock strings ---- */

@@ -28,20 +28,26 @@ static void fill_list(struct rng *rng, struct state *state, unsigned entries)
 {
     static const unsigned steps[] = { 1, 5, 7, 11 };
     unsigned next = rng_below(rng, POOL), step = RNG_PICK(rng, steps);
+    unsigned long tries = 0;
     for (unsigned count = 0; count < entries; next += step) {
         uint8_t string[14];
         pool_string(next % POOL, string);
         if (!listed(state, count, string))
             memcpy(place_at(state, count++), string, 14);
+        else
+            try_again(&tries, "so many different strings");
     }
 }
 
 /* A string with stray bytes that is not in the list. */
 static void new_string(struct rng *rng, struct state *state, unsigned entries, uint8_t *string)
 {
-    do
+    unsigned long tries = 0;
+    legal_string(rng, string);
+    while (listed(state, entries, string)) {
+        try_again(&tries, "a string that is not in the list");
         legal_string(rng, string);
-    while (listed(state, entries, string));
+    }
 }
 
 /* A string of the list, if it has any, with stray bytes after it. */

@@ -67,14 +67,17 @@ void stations_aged(struct rng *rng, uint8_t *stations)
 void tables_played(struct rng *rng, struct tables *tables,
                    unsigned logins, unsigned strings)
 {
+    unsigned long tries = 0;
     memset(tables, 0, sizeof *tables);
     tables->locks_len = ROWS * ROW;
     tables->stations_len = RECORDS * RECORD;
     ref_fresh(tables->locks, tables->locks_len, tables->stations, tables->stations_len);
     for (unsigned i = 0; i < logins; i++)
         play_code(rng, tables, CODE_LOGIN);
-    while (used_rows(tables) < strings)
+    while (used_rows(tables) < strings) {
+        try_again(&tries, "locks that are granted");
         play_code(rng, tables, CODE_LOCK);
+    }
     for (unsigned number = 1; number < RECORDS; number++)
         if (record_at(tables, number)[0] == 1)
             record_at(tables, number)[FOUND] = (uint8_t)rng_below(rng, 2);
@@ -97,16 +100,22 @@ void tables_any(struct rng *rng, struct tables *tables)
 static unsigned used_row(struct rng *rng, struct tables *tables)
 {
     unsigned i = rng_below(rng, ROWS);
-    while (row_at(tables, i)[0] == FREE)
+    unsigned long tries = 0;
+    while (row_at(tables, i)[0] == FREE) {
+        try_again(&tries, "a used row");
         i = (i + 1) % ROWS;
+    }
     return i;
 }
 
 static unsigned free_row(struct rng *rng, struct tables *tables)
 {
     unsigned i = rng_below(rng, ROWS);
-    while (row_at(tables, i)[0] != FREE)
+    unsigned long tries = 0;
+    while (row_at(tables, i)[0] != FREE) {
+        try_again(&tries, "a free row");
         i = (i + 1) % ROWS;
+    }
     return i;
 }
 
@@ -114,8 +123,11 @@ static unsigned free_row(struct rng *rng, struct tables *tables)
 static unsigned station(struct rng *rng, struct tables *tables, uint8_t logged_in)
 {
     unsigned number = 1 + rng_below(rng, 63);
-    while (record_at(tables, number)[0] != logged_in)
+    unsigned long tries = 0;
+    while (record_at(tables, number)[0] != logged_in) {
+        try_again(&tries, logged_in ? "a station logged in" : "a number not logged in");
         number = 1 + number % 63;
+    }
     return number;
 }
 

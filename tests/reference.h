@@ -24,7 +24,30 @@ uint64_t ref_place(uint32_t volume, uint32_t partition,
                    uint32_t track, uint32_t sector,
                    const uint8_t *site, size_t site_len);
 
+/* Request frames by themselves. A number too large for its field is written
+ * as the largest that fits: 255, for a track 65535. */
+uint64_t ref_read_frame(const uint8_t *frame, size_t frame_len);
+uint64_t ref_write_acknowledge(uint8_t *buffer, size_t buffer_len);
+uint64_t ref_write_read(uint32_t src, uint32_t volume, uint32_t partition,
+                        uint32_t track, uint32_t sector,
+                        uint8_t *buffer, size_t buffer_len);
+uint64_t ref_write_write(uint32_t src, uint32_t volume, uint32_t partition,
+                         uint32_t track, uint32_t sector,
+                         uint8_t *buffer, size_t buffer_len);
+uint64_t ref_write_login(const uint8_t name[8], const uint8_t password[6],
+                         const uint8_t serial[4], uint8_t product,
+                         uint8_t *buffer, size_t buffer_len);
+uint64_t ref_write_assign(const uint8_t name[8], const uint8_t password[6],
+                          uint8_t *buffer, size_t buffer_len);
+uint64_t ref_write_lock(const uint8_t lockstring[14], uint8_t *buffer, size_t buffer_len);
+uint64_t ref_write_unlock(const uint8_t lockstring[14], uint8_t *buffer, size_t buffer_len);
+uint64_t ref_write_clear(uint8_t *buffer, size_t buffer_len);
+uint64_t ref_write_logout(uint32_t src, uint8_t *buffer, size_t buffer_len);
+
 /* Poll turns. */
+uint64_t ref_due(uint32_t number,
+                 const uint8_t *locks, size_t locks_len,
+                 const uint8_t *stations, size_t stations_len);
 uint64_t ref_poll(uint32_t number, uint32_t heard,
                   uint8_t *locks, size_t locks_len,
                   uint8_t *stations, size_t stations_len);

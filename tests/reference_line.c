@@ -3,27 +3,32 @@
  */
 #include "reference.h"
 
+#include <stdlib.h>
+
 static void print_answer(FILE *out, uint64_t answer)
 {
     uint8_t bytes[6];
     for (unsigned i = 0; i < 6; i++)
         bytes[i] = (uint8_t)(answer >> (16 + 8 * i) & 0xFF);
-    switch (answer & 0xFFFF) {
-    case 1 << 8:
+    switch (answer >> 8 & 0xFF) {
+    case 0:
+        fprintf(out, "-");
+        break;
+    case 1:
         fprintf(out, "%02X", bytes[0]);
         break;
-    case 2 << 8:
+    case 2:
         fprintf(out, "%02X%02X%02X%02X", bytes[0], bytes[1], bytes[2], bytes[3]);
         break;
-    case 3 << 8:
+    case 3:
         fprintf(out, "%u:%lu", bytes[0], (unsigned long)(answer >> 24));
         break;
-    case 4 << 8:
+    case 4:
         fprintf(out, "%02X%c", bytes[0], bytes[1] != 0 ? 'Y' : 'N');
         break;
     default:
-        fprintf(out, "-");
-        break;
+        fprintf(stderr, "reference: no line for the answer %llX\n", (unsigned long long)answer);
+        exit(1);
     }
 }
 

@@ -4,35 +4,9 @@
 
 #include <string.h>
 
-enum {
-    ACKNOWLEDGE = 0x41,
-    READ = 0x11,
-    WRITE = 0x12,
-    LOGIN = 0x13,
-    ASSIGN = 0x17,
-    LOGOUT = 0x1F
-};
-
 static uint64_t status(uint8_t byte)
 {
     return 1 << 8 | ref_byte(0, byte);
-}
-
-/* Total length of a frame by its code, 0 for a code not in the table. */
-static size_t frame_length(uint8_t code)
-{
-    switch (code) {
-    case ACKNOWLEDGE: return 1;
-    case READ:        return 8;
-    case WRITE:       return 8;
-    case LOGIN:       return 20;
-    case ASSIGN:      return 15;
-    case LOCK:        return 15;
-    case UNLOCK:      return 15;
-    case CLEAR:       return 1;
-    case LOGOUT:      return 2;
-    default:          return 0;
-    }
 }
 
 /* May this command come at this number? */
@@ -54,13 +28,13 @@ static unsigned refusal(uint32_t number, const uint8_t *frame, size_t frame_len,
     if (number != LOGIN_NUMBER && !ref_logged_in(stations, number))
         return 2;
     uint8_t code = frame[0];
-    if (frame_length(code) == 0)
+    if (ref_frame_length(code) == 0)
         return 3;
-    if (frame_len != frame_length(code))
+    if (frame_len != ref_frame_length(code))
         return 4;
     if (!command_allowed(code, number))
         return 5;
-    if ((code == READ || code == WRITE) && frame[1] != 0)
+    if (ref_has_dtn(code) && frame[1] != 0)
         return 6;
     if ((code == READ || code == WRITE) && frame[2] != number)
         return 7;

@@ -17,8 +17,18 @@ enum {
     MISSES_MOST = 255
 };
 
-/* Codes of the frames that locks travel in. */
-enum { LOCK = 0x19, UNLOCK = 0x1A, CLEAR = 0x1B };
+/* Codes of request frames. */
+enum {
+    ACKNOWLEDGE = 0x41,
+    READ = 0x11,
+    WRITE = 0x12,
+    LOGIN = 0x13,
+    ASSIGN = 0x17,
+    LOCK = 0x19,
+    UNLOCK = 0x1A,
+    CLEAR = 0x1B,
+    LOGOUT = 0x1F
+};
 
 /* Bytes of a station record. */
 enum {
@@ -70,6 +80,12 @@ static inline uint64_t ref_byte(unsigned i, uint8_t byte)
 
 /* Two lock strings of legal length, each a length byte and then its bytes. */
 int ref_same_string(const uint8_t *a, const uint8_t *b);
+
+/* Total length of a frame by its code, 0 for a code not in the table. */
+size_t ref_frame_length(uint8_t code);
+
+/* Does a frame of this code have a dtn, its second byte? */
+int ref_has_dtn(uint8_t code);
 
 /* The site file. A search gives the row, or NULL. */
 int ref_site_good(const uint8_t *site, size_t site_len);

@@ -1,4 +1,4 @@
-/* One poll turn. */
+/* One poll turn, and whether the next one is due. */
 #include "reference.h"
 #include "reference_parts.h"
 
@@ -13,9 +13,9 @@ static void set_misses(uint8_t *record, unsigned misses)
     record[MISSES + 1] = (uint8_t)(misses >> 8);
 }
 
-uint64_t ref_poll(uint32_t number, uint32_t heard,
-                  uint8_t *locks, size_t locks_len,
-                  uint8_t *stations, size_t stations_len)
+/* The refusals of a turn, whether heard or not: 11, 2, 5, or 0. */
+static unsigned refusal(uint32_t number, const uint8_t *locks, size_t locks_len,
+                        const uint8_t *stations, size_t stations_len)
 {
     if (!ref_tables_good(locks, locks_len, stations, stations_len))
         return 11;
@@ -23,9 +23,34 @@ uint64_t ref_poll(uint32_t number, uint32_t heard,
         return 2;
     if (number == 0 || number == LOGIN_NUMBER)
         return 5;
+    return 0;
+}
+
+static int is_due(const uint8_t *record)
+{
+    return ref_number16(record + MISSES) < SLOW_FROM || record[SLOW] == SLOW_TURNS;
+}
+
+uint64_t ref_due(uint32_t number,
+                 const uint8_t *locks, size_t locks_len,
+                 const uint8_t *stations, size_t stations_len)
+{
+    unsigned refused = refusal(number, locks, locks_len, stations, stations_len);
+    if (refused != 0)
+        return refused;
+    return turn(is_due(stations + RECORD * number), 0);
+}
+
+uint64_t ref_poll(uint32_t number, uint32_t heard,
+                  uint8_t *locks, size_t locks_len,
+                  uint8_t *stations, size_t stations_len)
+{
+    unsigned refused = refusal(number, locks, locks_len, stations, stations_len);
+    if (refused != 0)
+        return refused;
     uint8_t *record = stations + RECORD * number;
     unsigned misses = ref_number16(record + MISSES);
-    int due = misses < SLOW_FROM || record[SLOW] == SLOW_TURNS;
+    int due = is_due(record);
     if (!due && heard != 0)
         return 12;
     if (!due) {

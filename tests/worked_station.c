@@ -1,12 +1,14 @@
-/* A worked example: a station and a master, and replies that are lost. */
+/* A worked example: a station and a master, lost replies, and a late one. */
 #include "hinet.h"
 
 #include <stdio.h>
+#include <stdlib.h>
 
 static uint8_t locks[HINET_LOCKS_BYTES];        /* the master's memory */
 static uint8_t stations[HINET_STATIONS_BYTES];
 static uint8_t state[HINET_STATE_BYTES];        /* the station's memory */
 static uint8_t number;                          /* the station's number */
+static uint8_t frame[HINET_LENGTH_MOST];        /* the wire */
 
 /* A site file with no users and no partitions. */
 static const uint8_t site[] = { 0x00, 0x00, 0x08, 0x00, 0x00, 0x00, 0x08, 0x00 };
@@ -14,18 +16,16 @@ static const uint8_t site[] = { 0x00, 0x00, 0x08, 0x00, 0x00, 0x00, 0x08, 0x00 }
 static const uint8_t string_a[HINET_LOCKSTRING_BYTES] = { 1, 'A' };
 static const uint8_t string_b[HINET_LOCKSTRING_BYTES] = { 1, 'B' };
 
-static uint64_t send(uint32_t polled, const uint8_t *frame, size_t frame_len)
+/* The master serves the frame that was just written. */
+static uint64_t serve(uint32_t polled, uint64_t written)
 {
-    return hinet_frame(polled, frame, frame_len, site, sizeof site,
-                       locks, sizeof locks, stations, sizeof stations);
-}
-
-/* The station sends the frame awaited; this is the master's status. */
-static uint8_t send_awaited(void)
-{
-    uint8_t frame[HINET_LENGTH_LOCK];
-    uint64_t written = hinet_station_frame(state, sizeof state, frame, sizeof frame);
-    return hinet_answer_status(send(number, frame, hinet_answer_length(written)));
+    uint64_t answer = hinet_frame(polled, frame, hinet_answer_length(written), site, sizeof site,
+                                  locks, sizeof locks, stations, sizeof stations);
+    if (hinet_answer_refusal(answer) != 0) {
+        printf("%s\n", hinet_refusal_text(hinet_answer_refusal(answer)));
+        exit(1);
+    }
+    return answer;
 }
 
 static void print_string(const uint8_t *string)
@@ -38,66 +38,90 @@ static void show(const char *what)
 {
     printf("%-28s listed:", what);
     for (unsigned i = 0; i < HINET_STATE_PLACES; i++)
-        if (state[HINET_STATE_PLACE_BYTES * i] != 0)
-            print_string(state + HINET_STATE_PLACE_BYTES * i);
+        if (hinet_state_lockstring(state, i)[0] != 0)
+            print_string(hinet_state_lockstring(state, i));
     printf(", held:");
     for (unsigned i = 0; i < HINET_LOCK_ROWS; i++)
-        if (locks[HINET_LOCK_ROW_BYTES * i] == number)
-            print_string(locks + HINET_LOCK_ROW_BYTES * i + 1);
-    printf(", awaited: %02X\n", state[HINET_STATE_AWAITED]);
+        if (hinet_row_owner(locks, i) == number)
+            print_string(hinet_row_lockstring(locks, i));
+    printf(", awaited: %02X\n", hinet_state_awaited(state));
 }
 
-/* The frame awaited is sent and its reply is lost, or is taken. */
-static void lose(void)
+static void show_reply(uint8_t status, const char *what)
 {
-    char what[32];
-    snprintf(what, sizeof what, "  sent, reply %02X is lost", send_awaited());
-    show(what);
+    char line[32];
+    snprintf(line, sizeof line, "  reply %02X is %s", status, what);
+    show(line);
 }
 
-static void take(void)
+/* The station sends the frame awaited; this is the master's status. */
+static uint8_t send_awaited(void)
 {
-    char what[32];
-    uint8_t status = send_awaited();
+    uint64_t written = hinet_station_frame(state, sizeof state, frame, sizeof frame);
+    return hinet_answer_status(serve(number, written));
+}
+
+static void take(uint8_t status)
+{
     uint64_t answer = hinet_station_reply(state, sizeof state, status);
-    snprintf(what, sizeof what, "  sent, reply %02X is %s", status,
-             hinet_answer_refusal(answer) == 0 ? "taken" : "refused");
+    show_reply(status, hinet_answer_refusal(answer) == 0 ? "taken" : "refused");
+}
+
+static void log_in(const char *what)
+{
+    static const uint8_t name[HINET_NAME_BYTES] = { 'B', 'E', 'T', 'T', 'Y', ' ', ' ', ' ' };
+    static const uint8_t password[HINET_PASSWORD_BYTES] = { 'S', 'E', 'C', 'R', 'E', 'T' };
+    static const uint8_t serial[HINET_SERIAL_BYTES] = { 0x12, 0x34, 0x56, 0x78 };
+    hinet_fresh(locks, sizeof locks, stations, sizeof stations);
+    number = hinet_answer_login_number(serve(HINET_NUMBER_LOGIN,
+        hinet_write_login(name, password, serial, 5, frame, sizeof frame)));
+    hinet_station_fresh(state, sizeof state);
     show(what);
 }
 
-/* What an entry said, in a line of its own. */
-static void show_refusal(const char *what, uint64_t answer)
+/* Where a reply is lost, the same frame is sent again. */
+static void lost_replies(void)
 {
-    printf("%-28s refused, %u\n", what, hinet_answer_refusal(answer));
+    log_in("logged in");
+    hinet_station_lock(state, sizeof state, string_a);
+    show("asks to lock A");
+    show_reply(send_awaited(), "lost");
+    uint64_t answer = hinet_station_lock(state, sizeof state, string_b);
+    printf("  asks to lock B: %s\n", hinet_refusal_text(hinet_answer_refusal(answer)));
+    take(send_awaited());
+    hinet_station_unlock(state, sizeof state, string_a);
+    show("asks to unlock A");
+    show_reply(send_awaited(), "lost");
+    take(send_awaited());
+    take(0x00);
+    hinet_station_clear(state, sizeof state);
+    show("asks to clear all locks");
+    take(send_awaited());
+}
+
+/* User 0 holds B. The first reply to the lock of A comes after the time-out,
+ * when the station has sent again, has its reply, and asks for B. */
+static void late_reply(const char *driver, int drops)
+{
+    log_in(driver);
+    serve(HINET_NUMBER_LOCAL, hinet_write_lock(string_b, frame, sizeof frame));
+    hinet_station_lock(state, sizeof state, string_a);
+    uint8_t late = send_awaited();
+    show_reply(late, "delayed");
+    take(send_awaited());
+    hinet_station_lock(state, sizeof state, string_b);
+    show("asks to lock B");
+    if (!drops)
+        hinet_station_reply(state, sizeof state, late);     /* B is listed; user 0 holds it */
+    show_reply(late, drops ? "late, dropped" : "late, taken");
+    if (drops)
+        take(send_awaited());
 }
 
 int main(void)
 {
-    static const uint8_t login[HINET_LENGTH_LOGIN] = { HINET_CODE_LOGIN };
-
-    hinet_fresh(locks, sizeof locks, stations, sizeof stations);
-    number = hinet_answer_login_number(send(HINET_NUMBER_LOGIN, login, sizeof login));
-    hinet_station_fresh(state, sizeof state);
-    show("logged in");
-
-    hinet_station_lock(state, sizeof state, string_a);
-    show("asks to lock A");
-    lose();
-    show_refusal("  asks to lock B", hinet_station_lock(state, sizeof state, string_b));
-    take();
-
-    hinet_station_lock(state, sizeof state, string_b);
-    show("asks to lock B");
-    take();
-
-    hinet_station_unlock(state, sizeof state, string_a);
-    show("asks to unlock A");
-    lose();
-    take();
-    show_refusal("a late reply 00", hinet_station_reply(state, sizeof state, 0x00));
-
-    hinet_station_clear(state, sizeof state);
-    show("asks to clear all locks");
-    take();
+    lost_replies();
+    late_reply("a driver that is wrong", 0);
+    late_reply("a driver that is right", 1);
     return 0;
 }

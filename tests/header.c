@@ -1,0 +1,398 @@
+/*
+ * Compares every constant and every inline function of hinet.h with what the
+ * rules say, and calls every entry once. It compiles as C99 and as C++11.
+ */
+#include "hinet.h"
+#include "hinet.h"
+
+#include <stdio.h>
+#include <string.h>
+
+static unsigned long compared, different;
+
+static void same(const char *what, uint64_t found, uint64_t expected)
+{
+    compared++;
+    if (found == expected)
+        return;
+    different++;
+    printf("%s: %llX, should be %llX\n", what,
+           (unsigned long long)found, (unsigned long long)expected);
+}
+
+#define SAME(what, expected) same(#what, (uint64_t)(what), (uint64_t)(expected))
+
+static void same_bytes(const char *what, const uint8_t *found, const char *expected, size_t len)
+{
+    same(what, memcmp(found, expected, len) == 0, 1);
+}
+
+/* ---- constants ---- */
+
+static void refusals_and_kinds(void)
+{
+    SAME(HINET_REFUSED_EMPTY, 1);
+    SAME(HINET_REFUSED_NUMBER, 2);
+    SAME(HINET_REFUSED_CODE, 3);
+    SAME(HINET_REFUSED_LENGTH, 4);
+    SAME(HINET_REFUSED_COMMAND, 5);
+    SAME(HINET_REFUSED_DTN, 6);
+    SAME(HINET_REFUSED_SRC, 7);
+    SAME(HINET_REFUSED_NO_ROW, 8);
+    SAME(HINET_REFUSED_OUTSIDE, 9);
+    SAME(HINET_REFUSED_SITE, 10);
+    SAME(HINET_REFUSED_TABLES, 11);
+    SAME(HINET_REFUSED_NOT_DUE, 12);
+    SAME(HINET_REFUSED_BUFFER, 13);
+    SAME(HINET_REFUSED_WAITING, 14);
+    SAME(HINET_REFUSED_REPLY, 15);
+    SAME(HINET_KIND_NONE, 0);
+    SAME(HINET_KIND_STATUS, 1);
+    SAME(HINET_KIND_ASSIGN, 2);
+    SAME(HINET_KIND_PLACE, 3);
+    SAME(HINET_KIND_LOGIN, 4);
+    SAME(HINET_KIND_TURN, 5);
+    SAME(HINET_KIND_WRITTEN, 6);
+    SAME(HINET_KIND_REQUEST, 13);
+}
+
+static void frame_constants(void)
+{
+    SAME(HINET_CODE_ACKNOWLEDGE, 0x41);
+    SAME(HINET_CODE_READ, 0x11);
+    SAME(HINET_CODE_WRITE, 0x12);
+    SAME(HINET_CODE_LOGIN, 0x13);
+    SAME(HINET_CODE_ASSIGN, 0x17);
+    SAME(HINET_CODE_LOCK, 0x19);
+    SAME(HINET_CODE_UNLOCK, 0x1A);
+    SAME(HINET_CODE_CLEAR, 0x1B);
+    SAME(HINET_CODE_LOGOUT, 0x1F);
+    SAME(HINET_LENGTH_ACKNOWLEDGE, 1);
+    SAME(HINET_LENGTH_READ, 8);
+    SAME(HINET_LENGTH_WRITE, 8);
+    SAME(HINET_LENGTH_LOGIN, 20);
+    SAME(HINET_LENGTH_ASSIGN, 15);
+    SAME(HINET_LENGTH_LOCK, 15);
+    SAME(HINET_LENGTH_UNLOCK, 15);
+    SAME(HINET_LENGTH_CLEAR, 1);
+    SAME(HINET_LENGTH_LOGOUT, 2);
+    SAME(HINET_LENGTH_MOST, 20);
+    SAME(HINET_NAME_BYTES, 8);
+    SAME(HINET_PASSWORD_BYTES, 6);
+    SAME(HINET_SERIAL_BYTES, 4);
+    SAME(HINET_LOCKSTRING_BYTES, 14);
+}
+
+static void table_constants(void)
+{
+    SAME(HINET_LOCK_ROWS, 64);
+    SAME(HINET_LOCK_ROW_BYTES, 16);
+    SAME(HINET_LOCKS_BYTES, 1024);
+    SAME(HINET_STATION_RECORDS, 64);
+    SAME(HINET_STATION_RECORD_BYTES, 18);
+    SAME(HINET_STATIONS_BYTES, 1152);
+    SAME(HINET_SITE_USERS_MOST, 128);
+    SAME(HINET_SITE_PARTITIONS_MOST, 64);
+    SAME(HINET_SITE_BYTES_MOST, 3592);
+    SAME(HINET_NO_OWNER, 0xFF);
+    SAME(HINET_NUMBER_LOCAL, 0);
+    SAME(HINET_NUMBER_LAST, 63);
+    SAME(HINET_NUMBER_LOGIN, 253);
+    SAME(HINET_STATUS_DONE, 0x00);
+    SAME(HINET_STATUS_TAKEN, 0x01);
+    SAME(HINET_STATUS_NO, 0x02);
+    SAME(HINET_STATUS_HELD, 0x81);
+    SAME(HINET_STATUS_FULL, 0x82);
+    SAME(HINET_ASSIGN_DENIED, 0xFF);
+    SAME(HINET_STATE_PLACES, 64);
+    SAME(HINET_STATE_PLACE_BYTES, 14);
+    SAME(HINET_STATE_AWAITED, 896);
+    SAME(HINET_STATE_AWAITED_BYTES, 15);
+    SAME(HINET_STATE_BYTES, 911);
+}
+
+static void version(void)
+{
+    SAME(HINET_VERSION_MAJOR, 1);
+    SAME(HINET_VERSION_MINOR, 0);
+    SAME(HINET_VERSION_PATCH, 0);
+    SAME(strcmp(HINET_VERSION, "1.0.0"), 0);
+}
+
+/* ---- types ---- */
+
+static void types(void)
+{
+    SAME(sizeof(hinet_volume), 4);
+    SAME(sizeof(hinet_partition), 4);
+    SAME(sizeof(hinet_track), 4);
+    SAME(sizeof(hinet_sector), 4);
+    SAME(hinet_volume_of(0x81A2B3C4u).number, 0x81A2B3C4u);
+    SAME(hinet_partition_of(0x92B3C4D5u).number, 0x92B3C4D5u);
+    SAME(hinet_track_of(0xA3C4D5E6u).number, 0xA3C4D5E6u);
+    SAME(hinet_sector_of(0xB4D5E6F7u).number, 0xB4D5E6F7u);
+}
+
+/* ---- the answer word ---- */
+
+/* Bytes of this word, lowest first: 91 A2, then B3 C4 D5 E6 F7 88. */
+static void word_of_high_bytes(void)
+{
+    const uint64_t word = UINT64_C(0x88F7E6D5C4B3A291);
+    uint8_t serial[4] = { 0, 0, 0, 0 };
+    SAME(hinet_answer_refusal(word), 0x91);
+    SAME(hinet_answer_kind(word), 0xA2);
+    SAME(hinet_answer_byte(word, 0), 0xB3);
+    SAME(hinet_answer_byte(word, 1), 0xC4);
+    SAME(hinet_answer_byte(word, 2), 0xD5);
+    SAME(hinet_answer_byte(word, 3), 0xE6);
+    SAME(hinet_answer_byte(word, 4), 0xF7);
+    SAME(hinet_answer_byte(word, 5), 0x88);
+    SAME(hinet_answer_code(word), 0xB3);
+    SAME(hinet_answer_length(word), 0xB3);
+    SAME(hinet_answer_status(word), 0xB3);
+    SAME(hinet_answer_assign_size(word), 0xB3);
+    SAME(hinet_answer_assign_partition(word).number, 0xC4);
+    SAME(hinet_answer_assign_control(word), 0xD5);
+    SAME(hinet_answer_assign_volume(word).number, 0xE6);
+    SAME(hinet_answer_place_volume(word).number, 0xB3);
+    SAME(hinet_answer_place_sector(word), 0xF7E6D5C4u);
+    SAME(hinet_answer_login_number(word), 0xB3);
+    SAME(hinet_answer_login_found(word), 0xC4);
+    hinet_answer_login_serial(word, serial);
+    same_bytes("hinet_answer_login_serial", serial, "\xD5\xE6\xF7\x88", 4);
+    SAME(hinet_answer_due(word), 0xB3);
+    SAME(hinet_answer_out(word), 0xC4);
+}
+
+/* The same with the other bits set: 6E 5D, then 4C 3B 2A 19 08 77. */
+static void word_of_low_bytes(void)
+{
+    const uint64_t word = UINT64_C(0x7708192A3B4C5D6E);
+    uint8_t serial[4] = { 0, 0, 0, 0 };
+    SAME(hinet_answer_refusal(word), 0x6E);
+    SAME(hinet_answer_kind(word), 0x5D);
+    SAME(hinet_answer_byte(word, 0), 0x4C);
+    SAME(hinet_answer_byte(word, 1), 0x3B);
+    SAME(hinet_answer_byte(word, 2), 0x2A);
+    SAME(hinet_answer_byte(word, 3), 0x19);
+    SAME(hinet_answer_byte(word, 4), 0x08);
+    SAME(hinet_answer_byte(word, 5), 0x77);
+    SAME(hinet_answer_code(word), 0x4C);
+    SAME(hinet_answer_length(word), 0x4C);
+    SAME(hinet_answer_status(word), 0x4C);
+    SAME(hinet_answer_assign_size(word), 0x4C);
+    SAME(hinet_answer_assign_partition(word).number, 0x3B);
+    SAME(hinet_answer_assign_control(word), 0x2A);
+    SAME(hinet_answer_assign_volume(word).number, 0x19);
+    SAME(hinet_answer_place_volume(word).number, 0x4C);
+    SAME(hinet_answer_place_sector(word), 0x08192A3Bu);
+    SAME(hinet_answer_login_number(word), 0x4C);
+    SAME(hinet_answer_login_found(word), 0x3B);
+    hinet_answer_login_serial(word, serial);
+    same_bytes("hinet_answer_login_serial", serial, "\x2A\x19\x08\x77", 4);
+    SAME(hinet_answer_due(word), 0x4C);
+    SAME(hinet_answer_out(word), 0x3B);
+}
+
+/* Each refusal has a text of its own, with a word of its rule in it; a number
+ * that is no refusal has another. */
+static void refusal_texts(void)
+{
+    static const char *const words[17] = {
+        "not refused", "empty", "logged in", "frame table", "length", "command", "dtn", "src",
+        "no row", "outside", "site file", "tables", "due", "buffer", "asks", "reply", "no refusal"
+    };
+    for (unsigned i = 0; i < 17; i++) {
+        const char *text = hinet_refusal_text(i);
+        same(words[i], strstr(text, words[i]) != NULL, 1);
+        for (unsigned j = 0; j < i; j++)
+            same(text, strcmp(text, hinet_refusal_text(j)) != 0, 1);
+    }
+    SAME(strcmp(hinet_refusal_text(255), hinet_refusal_text(16)), 0);
+    SAME(strcmp(hinet_refusal_text(256), hinet_refusal_text(16)), 0);
+    SAME(strcmp(hinet_refusal_text(0xFFFFFFFFu), hinet_refusal_text(16)), 0);
+}
+
+/* ---- fields of frames, tables and states ---- */
+
+static void request_fields(void)
+{
+    static const uint8_t read[8] = { 0x11, 0x00, 0xA2, 0xB3, 0xC4, 0xD5, 0xE6, 0xF7 };
+    static const uint8_t write[8] = { 0x12, 0x00, 0x17, 0x26, 0x35, 0x44, 0x53, 0x62 };
+    static const uint8_t logout[3] = { 0x1F, 0x9A, 0x8B };
+    static const uint8_t login[20] = { 0x13, 1, 2, 3, 4, 5, 6, 7, 8, 9, 10, 11, 12, 13, 14,
+                                       15, 16, 17, 18, 0xC9 };
+    SAME(hinet_request_src(read), 0xA2);
+    SAME(hinet_request_partition(read).number, 0xB3);
+    SAME(hinet_request_track(read).number, 0xD5C4);
+    SAME(hinet_request_sector(read).number, 0xE6);
+    SAME(hinet_request_volume(read).number, 0xF7);
+    SAME(hinet_request_src(write), 0x17);
+    SAME(hinet_request_partition(write).number, 0x26);
+    SAME(hinet_request_track(write).number, 0x4435);
+    SAME(hinet_request_sector(write).number, 0x53);
+    SAME(hinet_request_volume(write).number, 0x62);
+    SAME(hinet_request_src(logout), 0x9A);
+    SAME(hinet_request_name(login) - login, 1);
+    SAME(hinet_request_password(login) - login, 9);
+    SAME(hinet_request_serial(login) - login, 15);
+    SAME(hinet_request_product(login), 0xC9);
+    SAME(hinet_request_lockstring(login) - login, 1);
+}
+
+static void row_fields(void)
+{
+    static uint8_t locks[1024];
+    memset(locks, 0xEE, sizeof locks);
+    locks[0] = 0x10;
+    locks[592] = 0x91;
+    locks[1008] = 0xA2;
+    SAME(hinet_row_owner(locks, 0), 0x10);
+    SAME(hinet_row_owner(locks, 37), 0x91);
+    SAME(hinet_row_owner(locks, 63), 0xA2);
+    SAME(hinet_row_lockstring(locks, 0) - locks, 1);
+    SAME(hinet_row_lockstring(locks, 37) - locks, 593);
+    SAME(hinet_row_lockstring(locks, 63) - locks, 1009);
+}
+
+/* Records 0, 41 and 63 among bytes EE. */
+static void record_fields(void)
+{
+    static uint8_t stations[1152];
+    memset(stations, 0xEE, sizeof stations);
+    memcpy(stations, "\x01\x12\x34\x05", 4);
+    memcpy(stations + 738, "\x81\xD2\xE3\xA4", 4);
+    memcpy(stations + 754, "\xB5\xC6", 2);
+    memcpy(stations + 1134, "\x72\x63\x04\x45", 4);
+    memcpy(stations + 1150, "\x56\x27", 2);
+    SAME(hinet_record_logged_in(stations, 0), 0x01);
+    SAME(hinet_record_logged_in(stations, 41), 0x81);
+    SAME(hinet_record_logged_in(stations, 63), 0x72);
+    SAME(hinet_record_misses(stations, 0), 0x3412);
+    SAME(hinet_record_misses(stations, 41), 0xE3D2);
+    SAME(hinet_record_misses(stations, 63), 0x0463);
+    SAME(hinet_record_slow_turns(stations, 0), 0x05);
+    SAME(hinet_record_slow_turns(stations, 41), 0xA4);
+    SAME(hinet_record_slow_turns(stations, 63), 0x45);
+    SAME(hinet_record_name(stations, 0) - stations, 4);
+    SAME(hinet_record_name(stations, 41) - stations, 742);
+    SAME(hinet_record_name(stations, 63) - stations, 1138);
+    SAME(hinet_record_serial(stations, 0) - stations, 12);
+    SAME(hinet_record_serial(stations, 41) - stations, 750);
+    SAME(hinet_record_serial(stations, 63) - stations, 1146);
+    SAME(hinet_record_product(stations, 41), 0xB5);
+    SAME(hinet_record_product(stations, 63), 0x56);
+    SAME(hinet_record_found(stations, 41), 0xC6);
+    SAME(hinet_record_found(stations, 63), 0x27);
+}
+
+static void state_fields(void)
+{
+    static uint8_t station[911];
+    memset(station, 0xEE, sizeof station);
+    station[896] = 0x9B;
+    SAME(hinet_state_lockstring(station, 0) - station, 0);
+    SAME(hinet_state_lockstring(station, 1) - station, 14);
+    SAME(hinet_state_lockstring(station, 63) - station, 882);
+    SAME(hinet_state_awaited(station), 0x9B);
+}
+
+/* ---- one call of each entry ---- */
+
+static const uint8_t name[8] = { 'B', 'E', 'T', 'T', 'Y', ' ', ' ', ' ' };
+static const uint8_t password[6] = { 'S', 'E', 'C', 'R', 'E', 'T' };
+static const uint8_t serial[4] = { 0x12, 0x34, 0x56, 0x78 };
+static const uint8_t string[14] = { 3, 'K', 'E', 'Y' };
+
+/* One frame of each command: kind 6 and its length. A src above 255 is 255. */
+static void entries_of_frames(void)
+{
+    const hinet_volume volume = hinet_volume_of(3);
+    const hinet_partition partition = hinet_partition_of(60);
+    const hinet_track track = hinet_track_of(0x1234);
+    const hinet_sector sector = hinet_sector_of(100);
+    uint8_t buffer[20];
+    SAME(hinet_write_acknowledge(buffer, 20), 0x010600);
+    same_bytes("acknowledge", buffer, "\x41", 1);
+    SAME(hinet_write_read(5, volume, partition, track, sector, buffer, 20), 0x080600);
+    same_bytes("read", buffer, "\x11\0\x05\x3C\x34\x12\x64\x03", 8);
+    SAME(hinet_write_write(256, volume, partition, track, sector, buffer, 20), 0x080600);
+    same_bytes("write", buffer, "\x12\0\xFF\x3C\x34\x12\x64\x03", 8);
+    SAME(hinet_write_login(name, password, serial, 9, buffer, 20), 0x140600);
+    same_bytes("login", buffer, "\x13" "BETTY   SECRET\x12\x34\x56\x78\x09", 20);
+    SAME(hinet_write_assign(name, password, buffer, 20), 0x0F0600);
+    same_bytes("assign", buffer, "\x17" "BETTY   SECRET", 15);
+    SAME(hinet_write_lock(string, buffer, 20), 0x0F0600);
+    same_bytes("lock", buffer, "\x19\x03KEY\0\0\0\0\0\0\0\0\0\0", 15);
+    SAME(hinet_write_unlock(string, buffer, 20), 0x0F0600);
+    same_bytes("unlock", buffer, "\x1A\x03KEY\0\0\0\0\0\0\0\0\0\0", 15);
+    SAME(hinet_write_clear(buffer, 20), 0x010600);
+    same_bytes("clear", buffer, "\x1B", 1);
+    SAME(hinet_write_logout(257, buffer, 1), 13);
+    SAME(hinet_write_logout(257, buffer, 20), 0x020600);
+    same_bytes("logout", buffer, "\x1F\xFF", 2);
+    SAME(hinet_read_frame((const uint8_t *)buffer, 2), 0x1F0D00);
+}
+
+/* A partition of volume 1, number 0, size 1, first sector 2048; numbers above
+ * 255 are not cut to a byte. */
+static void entries_of_the_master(void)
+{
+    static const uint8_t site[32] = { 0, 0, 8, 0, 1, 0, 8, 0,
+        'S', 'T', 'O', 'C', 'K', ' ', ' ', ' ', 0, 0, 0, 0, 0, 0, 1, 0, 1, 0, 0, 8, 0, 0, 0, 0 };
+    static uint8_t locks[1024], stations[1152];
+    const uint8_t *rows = locks, *records = stations;
+    uint8_t frame[20];
+    SAME(hinet_fresh(locks, 1024, stations, 1152), 0);
+    SAME(hinet_check_tables(rows, 1024, records, 1152), 0);
+    SAME(hinet_check_site(site, 32), 0);
+    SAME(hinet_place(hinet_volume_of(1), hinet_partition_of(0), hinet_track_of(15),
+                     hinet_sector_of(128), site, 32), UINT64_C(0x00000FFF010300));
+    hinet_write_login(name, password, serial, 9, frame, 20);
+    SAME(hinet_frame(253, (const uint8_t *)frame, 20, site, 32, locks, 1024, stations, 1152),
+         UINT64_C(0x7856341200010400));
+    SAME(hinet_frame(509, (const uint8_t *)frame, 20, site, 32, locks, 1024, stations, 1152), 2);
+    SAME(hinet_due(1, rows, 1024, records, 1152), 0x010500);
+    SAME(hinet_due(257, rows, 1024, records, 1152), 2);
+    SAME(hinet_poll(1, 0, locks, 1024, stations, 1152), 0x010500);
+    SAME(hinet_record_misses(stations, 1), 1);
+    SAME(hinet_poll(257, 0, locks, 1024, stations, 1152), 2);
+    SAME(hinet_poll(1, 256, locks, 1024, stations, 1152), 0x010500);
+    SAME(hinet_record_misses(stations, 1), 0);
+}
+
+static void entries_of_a_station(void)
+{
+    static uint8_t station[911];
+    const uint8_t *state = station;
+    uint8_t frame[15];
+    SAME(hinet_station_fresh(station, 911), 0);
+    SAME(hinet_station_lock(station, 911, string), 0);
+    SAME(hinet_station_frame(state, 911, frame, 15), 0x0F0600);
+    SAME(hinet_station_reply(station, 911, 0x100), 15);
+    SAME(hinet_station_reply(station, 911, 0x00), 0);
+    SAME(hinet_station_unlock(station, 911, string), 0);
+    SAME(hinet_station_clear(station, 911), 14);
+}
+
+int main(void)
+{
+    refusals_and_kinds();
+    frame_constants();
+    table_constants();
+    version();
+    types();
+    word_of_high_bytes();
+    word_of_low_bytes();
+    refusal_texts();
+    request_fields();
+    row_fields();
+    record_fields();
+    state_fields();
+    entries_of_frames();
+    entries_of_the_master();
+    entries_of_a_station();
+    printf("header: %lu compared, %lu different\n", compared, different);
+    return different == 0 ? 0 : 1;
+}

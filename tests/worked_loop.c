@@ -1,0 +1,121 @@
+/*
+ * A worked example: the main loop of a box, over a made-up wire with three
+ * stations. One of them falls silent. In which turns it is then polled, and
+ * when it is logged out, only the library knows.
+ */
+#include "hinet.h"
+
+#include <stdio.h>
+#include <stdlib.h>
+
+static uint8_t locks[HINET_LOCKS_BYTES];
+static uint8_t stations[HINET_STATIONS_BYTES];
+static unsigned rounds;
+
+/* A site file with no users and no partitions. */
+static const uint8_t site[] = { 0x00, 0x00, 0x08, 0x00, 0x00, 0x00, 0x08, 0x00 };
+
+/* Prints what happens at a number, but not the same thing twice running. */
+static void tell(uint32_t number, const char *what)
+{
+    static const char *last[HINET_NUMBER_LOGIN + 1];
+    if (last[number] != what)
+        printf("round %4u, number %u: %s\n", rounds, (unsigned)number, what);
+    last[number] = what;
+}
+
+/* ---- the made-up wire ---- */
+
+static unsigned logged_in;      /* stations 1 to 3 log in one after another */
+static int over;                /* station 2 has what it wants */
+
+/* Polls a number: the length of the frame heard before the time-out, or 0.
+ * Stations 1 and 2 want the same lock, station 3 wants to read. */
+static size_t wire_poll(uint32_t number, uint8_t *frame, size_t len)
+{
+    static const uint8_t name[HINET_NAME_BYTES] = { 'B', 'E', 'T', 'T', 'Y', ' ', ' ', ' ' };
+    static const uint8_t password[HINET_PASSWORD_BYTES] = { 'S', 'E', 'C', 'R', 'E', 'T' };
+    static const uint8_t serial[HINET_SERIAL_BYTES] = { 0x12, 0x34, 0x56, 0x78 };
+    static const uint8_t stock[HINET_LOCKSTRING_BYTES] = { 5, 'S', 'T', 'O', 'C', 'K' };
+    uint64_t written = 0;
+    if (number == HINET_NUMBER_LOGIN && logged_in < 3)
+        written = hinet_write_login(name, password, serial, 5, frame, len);
+    else if (number == 2 || (number == 1 && rounds <= 3))
+        written = hinet_write_lock(stock, frame, len);
+    else if (number == 3)
+        written = hinet_write_read(number, hinet_volume_of(1), hinet_partition_of(0),
+                                   hinet_track_of(15), hinet_sector_of(128), frame, len);
+    return hinet_answer_length(written);
+}
+
+/* Does the station still wait for its answer? Once the box is too slow. */
+static int wire_waits(uint32_t number)
+{
+    return number != 1 || rounds != 2;
+}
+
+/* The station gets its answer. */
+static void wire_send(uint32_t number, uint64_t answer)
+{
+    if (hinet_answer_kind(answer) == HINET_KIND_LOGIN) {
+        logged_in = hinet_answer_login_number(answer);
+        tell(logged_in, "logs in");
+        return;
+    }
+    switch (hinet_answer_status(answer)) {
+    case HINET_STATUS_DONE:  tell(number, "gets the lock"); over = 1; break;
+    case HINET_STATUS_HELD:  tell(number, "has the lock already"); break;
+    case HINET_STATUS_TAKEN: tell(number, "another has the lock"); break;
+    default:                 tell(number, "no such status"); exit(1);
+    }
+}
+
+/* ---- the box ---- */
+
+/* Serves a frame. Its answer is sent in this exchange or never. */
+static void serve(uint32_t number, const uint8_t *frame, size_t len)
+{
+    uint64_t answer = hinet_frame(number, frame, len, site, sizeof site,
+                                  locks, sizeof locks, stations, sizeof stations);
+    if (hinet_answer_refusal(answer) != 0)
+        tell(number, hinet_refusal_text(hinet_answer_refusal(answer)));
+    else if (wire_waits(number))
+        wire_send(number, answer);
+    else
+        tell(number, "the answer is late and is dropped");
+}
+
+/* A turn of a station that is logged in. */
+static void turn(uint32_t number)
+{
+    uint8_t frame[HINET_LENGTH_MOST];
+    size_t len = 0;
+    if (hinet_answer_due(hinet_due(number, locks, sizeof locks, stations, sizeof stations)))
+        len = wire_poll(number, frame, sizeof frame);
+    else
+        tell(number, "is not due");
+    uint64_t answer = hinet_poll(number, len != 0, locks, sizeof locks, stations, sizeof stations);
+    if (hinet_answer_refusal(answer) != 0) {
+        tell(number, hinet_refusal_text(hinet_answer_refusal(answer)));
+        exit(1);                /* the tables are no longer good */
+    }
+    if (hinet_answer_out(answer))
+        tell(number, "is logged out");
+    if (len != 0)
+        serve(number, frame, len);
+}
+
+int main(void)
+{
+    uint8_t frame[HINET_LENGTH_MOST];
+    hinet_fresh(locks, sizeof locks, stations, sizeof stations);
+    for (rounds = 1; !over && rounds < 5000; rounds++) {
+        for (uint32_t number = 1; number <= HINET_NUMBER_LAST; number++)
+            if (hinet_record_logged_in(stations, number))
+                turn(number);
+        size_t len = wire_poll(HINET_NUMBER_LOGIN, frame, sizeof frame);
+        if (len != 0)
+            serve(HINET_NUMBER_LOGIN, frame, len);
+    }
+    return 0;
+}
