@@ -11,8 +11,8 @@ ghost use lib.ListN.{length, take};
 ghost use Rattle.io.specs.Counts.{Counts};
 ghost use Rattle.session.specs.Session.{between, Takes};
 
-// The longest good site file.
-const SITE: usize = 3592;
+// One byte more than the longest good site file, so that a longer one is seen to be too long.
+const SITE: usize = 3593;
 
 // A proved loop has to end, and nothing says that an input does. No run takes so many blocks.
 const TURNS: u64 = 1125899906842624;
@@ -24,36 +24,83 @@ struct Turn {
     more: bool,
 }
 
-// Reads site.bin and answers its length, or 0, which no good file has, where it is missing, unreadable or too long.
+// After a read: where the input then ends, and whether it could not be read.
+struct Reach {
+    end: usize,
+    failed: bool,
+}
+
+// Writes the text to standard output, and answers whether it could. Where not, a line on standard error says why.
+fn say(text: &[u8]) -> bool {
+    let written = io::write_all(STDOUT_FILENO, text);
+    if !written {
+        os::fail(b"session: standard output");
+    }
+    written
+}
+
+// Reads behind what is kept, where there is room. Where that fails, a line on standard error says why, and names the
+// input.
+fn read_more(fd: i32, name: &[u8], input: &mut [u8], kept: usize) -> Reach
+    requires { ⌜ kept < length (now input) ⌝ }
+    ensures { λ r. ⌜ (kept ≤ r .end) × (r .end ≤ length (now (input .entry))) × (take kept (now (input .exit)) ≡ take kept (now (input .entry))) ⌝ }
+{
+    let got = libc::read(fd, &mut input[kept..]);
+    if got < 0 {
+        os::fail(name);
+        return Reach {
+            end: kept,
+            failed: true,
+        };
+    }
+    let more = io::count(got, &input[kept..]);
+    Reach {
+        end: kept + more,
+        failed: false,
+    }
+}
+
+// Reads the file to its end, or until there is no more room, and answers its length, or 0 where it cannot be read.
+fn read_file(fd: i32, file: &mut [u8]) -> usize
+    ensures { λ r. ⌜ Counts r (now (file .exit)) ⌝ }
+{
+    let mut n: usize = 0;
+    while n < file.len() {
+        let reach = read_more(fd, b"session: site.bin", file, n);
+        let end = reach.end;
+        if reach.failed {
+            return 0;
+        }
+        if end == n {
+            return n;
+        }
+        n = end;
+    }
+    n
+}
+
+// Reads site.bin and answers its length, or 0, which no good file has, where it is missing or cannot be read.
 fn read_site(file: &mut [u8]) -> usize
     ensures { λ r. ⌜ Counts r (now (file .exit)) ⌝ }
 {
     let fd = os::open_read(b"site.bin");
     if fd < 0 {
+        os::fail(b"session: site.bin");
         return 0;
     }
-    let n = io::read_full(fd, file);
-    let mut one = [0u8; 1];
-    let got = libc::read(fd, &mut one);
+    let n = read_file(fd, file);
     libc::close(fd);
-    if got != 0 {
-        return 0;
-    }
     n
 }
 
-// Reads behind what is kept, where there is room, and answers where the input then ends. An input that cannot be read has
-// ended.
-fn read_more(input: &mut [u8], kept: usize) -> usize
-    requires { ⌜ kept < length (now input) ⌝ }
-    ensures { λ r. ⌜ (kept ≤ r) × (r ≤ length (now (input .entry))) × (take kept (now (input .exit)) ≡ take kept (now (input .entry))) ⌝ }
-{
-    let got = libc::read(STDIN_FILENO, &mut input[kept..]);
-    kept + io::count(got, &input[kept..])
+// Nothing more was read. Where the input has ended, what is kept of it is a record cut short.
+fn end_input(kept: usize, failed: bool) {
+    if kept != 0 && !failed {
+        say(b"cut\n");
+    }
 }
 
-// One block: reads, plays what is whole, writes the lines and keeps the rest. At the end of the input a rest is a record
-// cut short.
+// One block: reads, plays what is whole, writes the lines and keeps the rest.
 fn take_turn(
     site: &[u8],
     kept: usize,
@@ -67,11 +114,10 @@ fn take_turn(
     ensures { λ r. ⌜ (r .kept ≤ 256) × (r .index ≤ index + length (now (input .entry))) ⌝ }
     ensures { λ r. ⌜ (r .more ≡ true → Takes (now (site .entry)) (between (now (input .entry)) kept index (now (locks .entry)) (now (records .entry))) (between (now (input .exit)) (r .kept) (r .index) (now (locks .exit)) (now (records .exit)))) ⌝ }
 {
-    let end = read_more(input, kept);
+    let reach = read_more(STDIN_FILENO, b"session: standard input", input, kept);
+    let end = reach.end;
     if end == kept {
-        if kept != 0 {
-            io::write_all(STDOUT_FILENO, b"cut\n");
-        }
+        end_input(kept, reach.failed);
         return Turn {
             kept,
             index,
@@ -81,7 +127,7 @@ fn take_turn(
     let played = block::play(&input[..end], index, site, locks, records, output);
     let at = played.at;
     let used = played.used;
-    let more = io::write_all(STDOUT_FILENO, &output[..used]);
+    let more = say(&output[..used]);
     let rest = end - at;
     rows::slide(input, at, 0, rest);
     Turn {
@@ -131,10 +177,10 @@ fn main() {
     let mut file = [0u8; SITE];
     let n = read_site(&mut file);
     if !site::is_good(&file[..n]) {
-        io::write_all(STDOUT_FILENO, b"site 10\n");
+        say(b"site 10\n");
         return;
     }
-    if io::write_all(STDOUT_FILENO, b"rec num ref answer\n") {
+    if say(b"rec num ref answer\n") {
         play_records(&file[..n]);
     }
 }

@@ -10,38 +10,41 @@ use Rattle.session.proofs.take_turn.Tie as tie
 returns : tie.Need-returns
 returns c = (omega arith, λ e. both e refl)
 
-returns-2 : tie.Need-returns-2
-returns-2 c = (omega arith, λ e. both e refl)
-
 slice-aggregate-play : tie.Need-slice-aggregate-play
 slice-aggregate-play c = sym (length-take-le _ _ (omega arith))
 
 play-requires : tie.Need-play-requires
-play-requires c κs = let long = length-take-le (c .before .before .before .before .before .before .before .read-more .result) (c .before .before .before .before .before .before .before .read-more .last .0) (omega (arith, c .before .before .before .before .before .before .before .read-more, c .before .before .before .before .before .before .before .before .before .before .before .before .before .before .pre)) in omega (arith, c .before .before .before .before .before .before .before .before .before .before .before .before .before .before .pre)
+play-requires c κs =
+    let more = c .before .before .before .before .before .before .before in
+    let start = more .before .before .before .before .before .before .before .before in
+    let long = length-take-le (more .read-more .result .end) (more .read-more .last .1 .1 .0) (omega (arith, more .read-more, start .pre)) in
+    omega (arith, start .pre)
 
-slice-aggregate-write-all-2 : tie.Need-slice-aggregate-write-all-2
-slice-aggregate-write-all-2 c = sym (length-take-le _ _ (omega (arith, c .before .before .before .before .before .before .before .play)))
+slice-aggregate-say : tie.Need-slice-aggregate-say
+slice-aggregate-say c = sym (length-take-le _ _ (omega (arith, c .before .before .before .before .before .before .before .play)))
 
 sub-rest : tie.Need-sub-rest
 sub-rest c =
     let played = c .before .before .before .before .before .before .before .before in
     let more = played .before .before .before .before .before .before .before .before in
-    let long = length-take-le (more .read-more .result) (more .read-more .last .0) (omega (arith, more .read-more, more .before .before .before .before .before .before .before .pre)) in
+    let start = more .before .before .before .before .before .before .before .before in
+    let long = length-take-le (more .read-more .result .end) (more .read-more .last .1 .1 .0) (omega (arith, more .read-more, start .pre)) in
     omega (arith, played .play .ensures)
 
 slide-requires : tie.Need-slide-requires
 slide-requires c κs =
     let played = c .before .before .before .before .before .before .before .before .before in
     let more = played .before .before .before .before .before .before .before .before in
-    let long = length-take-le (more .read-more .result) (more .read-more .last .0) (omega (arith, more .read-more, more .before .before .before .before .before .before .before .pre)) in
+    let start = more .before .before .before .before .before .before .before .before in
+    let long = length-take-le (more .read-more .result .end) (more .read-more .last .1 .1 .0) (omega (arith, more .read-more, start .pre)) in
     omega (arith, played .play .ensures)
 
-returns-3 : tie.Need-returns-3
-returns-3 c =
+returns-2 : tie.Need-returns-2
+returns-2 c =
     let played = c .before .before .before .before .before .before .before .before .before .before .before .before in
     let more = played .before .before .before .before .before .before .before .before .read-more in
-    let start = played .before .before .before .before .before .before .before .before .before .before .before .before .before .before .before in
-    let long = length-take-le (more .result) (more .last .0) (omega (arith, more, start .pre)) in (
+    let start = played .before .before .before .before .before .before .before .before .before .before .before .before .before .before .before .before in
+    let long = length-take-le (more .result .end) (more .last .1 .1 .0) (omega (arith, more, start .pre)) in (
       omega (arith, played .play .ensures, more, start .pre),
       λ e. takes _ _ _ _ _ _ _ _ _ _ _ _ _ _ (more .ensures .0) (omega (arith, more)) (omega (arith, played .play .ensures)) (more .ensures .2) (played .play .ensures) (c .before .before .slide .ensures),
     )
@@ -50,18 +53,16 @@ pub take-turn-spec : {M : Type 1} → statement M
 take-turn-spec =
     tie.close
     (tie.spec
-    (λ c κs. search needs)
     (λ c. search needs)
+    (λ c κs. search needs)
     (λ c κs. search needs)
     (λ c. search needs)
     returns
     (λ c. search needs)
-    returns-2
-    (λ c. search needs)
     slice-aggregate-play
     play-requires
     (λ c. search needs)
-    slice-aggregate-write-all-2
+    slice-aggregate-say
     (λ c κs. search needs)
     sub-rest
     slide-requires
@@ -69,4 +70,4 @@ take-turn-spec =
     (λ c. search needs)
     (λ c. search needs)
     (λ c. search needs)
-    returns-3)
+    returns-2)
