@@ -31,6 +31,8 @@
  *                   second in bits 24 to 31, and so on
  *   Bits above the answer's own bytes are zero. A refused call has zeros
  *   above bit 7. An entry with nothing to tell returns exactly 0.
+ *   Look at the refusal first, then at the kind, then at the bytes: a refused
+ *   word has zeros for bytes, and a status of zero would mean granted.
  *
  * Numbers of more than one byte have their low byte first, in answers,
  * frames, tables and the site file alike.

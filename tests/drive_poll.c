@@ -163,7 +163,7 @@ static void silent_from(unsigned heard_in)
         expect(hinet_answer_due(answer) == due_in_turn(turn), "a turn due or not");
         expect(hinet_answer_out(answer) == (turn == 1312), "out before or after turn 1312");
     }
-    for (unsigned i = 0; i < HINET_LOCK_ROWS; i++)
+    for (unsigned i = 0; i < 64; i++)
         expect(hinet_row_owner(desk.locks.bytes, i) != number, "a lock of a station that is out");
     poll_turn(number, 0);
     expect_refusal(2);

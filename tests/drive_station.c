@@ -351,7 +351,7 @@ static void exchange(struct member *m)
 
 static int holds(uint8_t number, const uint8_t *place)
 {
-    for (unsigned i = 0; i < HINET_LOCK_ROWS; i++)
+    for (unsigned i = 0; i < 64; i++)
         if (hinet_row_owner(desk.locks.bytes, i) == number
             && memcmp(hinet_row_lockstring(desk.locks.bytes, i), place, 14) == 0)
             return 1;
@@ -361,7 +361,7 @@ static int holds(uint8_t number, const uint8_t *place)
 static unsigned held_count(uint8_t number)
 {
     unsigned count = 0;
-    for (unsigned i = 0; i < HINET_LOCK_ROWS; i++)
+    for (unsigned i = 0; i < 64; i++)
         count += hinet_row_owner(desk.locks.bytes, i) == number;
     return count;
 }
@@ -371,7 +371,7 @@ static void list_agrees(const struct member *m)
 {
     const uint8_t *state = m->station.lent.bytes;
     unsigned count = 0;
-    while (count < HINET_STATE_PLACES && hinet_state_lockstring(state, count)[0] != 0) {
+    while (count < PLACES && hinet_state_lockstring(state, count)[0] != 0) {
         expect(holds(m->number, hinet_state_lockstring(state, count)), "listed and not held");
         count++;
     }

@@ -22,13 +22,13 @@ uint8_t rng_byte(struct rng *rng);
 uint8_t rng_nonzero(struct rng *rng);
 void rng_bytes(struct rng *rng, uint8_t *bytes, size_t count);
 
-/* A loop that looks for something calls this before each further try. Too many
- * without success end the program: the rules that it plays by are broken. */
-void try_again(unsigned long *tries, const char *wanted);
-
 /* One of the values of an array. */
 #define RNG_PICK(rng, array) \
     ((array)[rng_below((rng), (unsigned)(sizeof (array) / sizeof *(array)))])
+
+/* A loop that looks for something calls this before each further try. Too many
+ * without success end the program: the rules that it plays by are broken. */
+void try_again(unsigned long *tries, const char *wanted);
 
 /* ---- site files ---- */
 

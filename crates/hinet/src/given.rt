@@ -18,12 +18,14 @@ pub fn byte_of(n: u32) -> u8
     if n < 255 { n as u8 } else { 255 }
 }
 
+// A track for a field of two bytes.
 fn track_of(track: u32) -> Track
     ensures { λ r. ⌜ r .0 ≡ min track 65535 ⌝ }
 {
     Track(if track < 65535 { track as u16 } else { 65535 })
 }
 
+// An address for the fields of a frame.
 pub fn address_of(volume: u32, partition: u32, track: u32, sector: u32) -> Address
     ensures { λ r. ⌜ r ≡ fieldsFor volume partition track sector ⌝ }
 {

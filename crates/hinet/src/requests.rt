@@ -1,5 +1,5 @@
-// The entries that write and read one request frame (specs/FrameEntries.antt). Writing takes any values and refuses with 13
-// alone; reading refuses with 1, 3, 4 or 6.
+// The entries that write and read one request frame (specs/FrameEntries.antt), by its code in hex. Writing takes any values
+// and refuses with 13 alone; reading refuses with 1, 3, 4 or 6.
 use crate::given;
 use crate::packing;
 use frames::Command;
@@ -18,6 +18,7 @@ fn compose(q: Request, buffer: &mut [u8]) -> u64
     packing::pack_written(frames::write(q, buffer))
 }
 
+// 41: acknowledge.
 #[no_mangle]
 pub extern "C" fn hinet_write_acknowledge(buffer: &mut [u8]) -> u64
     ensures { λ r. ⌜ Composes (plain Acknowledge) (now (buffer .entry)) r (now (buffer .exit)) ⌝ }
@@ -25,6 +26,7 @@ pub extern "C" fn hinet_write_acknowledge(buffer: &mut [u8]) -> u64
     compose(frames::plain(Command::Acknowledge), buffer)
 }
 
+// 11: read the sector at an address.
 #[no_mangle]
 pub extern "C" fn hinet_write_read(
     src: u32,
@@ -41,6 +43,7 @@ pub extern "C" fn hinet_write_read(
     compose(frames::plain(Command::Read { src, address: from }), buffer)
 }
 
+// 12: write the sector at an address.
 #[no_mangle]
 pub extern "C" fn hinet_write_write(
     src: u32,
@@ -69,6 +72,7 @@ fn named(command: Command, name: &[u8; 8], password: &[u8; 6]) -> Request
     q
 }
 
+// 13: login.
 #[no_mangle]
 pub extern "C" fn hinet_write_login(
     name: &[u8; 8],
@@ -85,6 +89,7 @@ pub extern "C" fn hinet_write_login(
     compose(q, buffer)
 }
 
+// 17: assign a partition.
 #[no_mangle]
 pub extern "C" fn hinet_write_assign(name: &[u8; 8], password: &[u8; 6], buffer: &mut [u8]) -> u64
     ensures { λ r. ⌜ Composes (namedOf Assign (now (name .entry)) (now (password .entry))) (now (buffer .entry)) r (now (buffer .exit)) ⌝ }
@@ -102,6 +107,7 @@ fn with_string(command: Command, lockstring: &[u8; 14]) -> Request
     q
 }
 
+// 19: lock.
 #[no_mangle]
 pub extern "C" fn hinet_write_lock(lockstring: &[u8; 14], buffer: &mut [u8]) -> u64
     ensures { λ r. ⌜ Composes (stringOf Lock (stringAt (now (lockstring .entry)) 0)) (now (buffer .entry)) r (now (buffer .exit)) ⌝ }
@@ -109,6 +115,7 @@ pub extern "C" fn hinet_write_lock(lockstring: &[u8; 14], buffer: &mut [u8]) -> 
     compose(with_string(Command::Lock, lockstring), buffer)
 }
 
+// 1A: unlock.
 #[no_mangle]
 pub extern "C" fn hinet_write_unlock(lockstring: &[u8; 14], buffer: &mut [u8]) -> u64
     ensures { λ r. ⌜ Composes (stringOf Unlock (stringAt (now (lockstring .entry)) 0)) (now (buffer .entry)) r (now (buffer .exit)) ⌝ }
@@ -116,6 +123,7 @@ pub extern "C" fn hinet_write_unlock(lockstring: &[u8; 14], buffer: &mut [u8]) -
     compose(with_string(Command::Unlock, lockstring), buffer)
 }
 
+// 1B: clear all locks.
 #[no_mangle]
 pub extern "C" fn hinet_write_clear(buffer: &mut [u8]) -> u64
     ensures { λ r. ⌜ Composes (plain Clear) (now (buffer .entry)) r (now (buffer .exit)) ⌝ }
@@ -123,6 +131,7 @@ pub extern "C" fn hinet_write_clear(buffer: &mut [u8]) -> u64
     compose(frames::plain(Command::Clear), buffer)
 }
 
+// 1F: instant logout.
 #[no_mangle]
 pub extern "C" fn hinet_write_logout(src: u32, buffer: &mut [u8]) -> u64
     ensures { λ r. ⌜ Composes (logoutOf src) (now (buffer .entry)) r (now (buffer .exit)) ⌝ }

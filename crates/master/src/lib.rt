@@ -109,9 +109,9 @@ pub fn due(number: u32, locks: &[u8], records: &[u8]) -> Turned
     if !who::is_good(records) {
         return Turned::Refused(11);
     }
-    let refusal = poll::word_refusal(who::lent::word_of(records), number, locks);
-    if refusal != 0 {
-        return Turned::Refused(refusal);
+    let seat = poll::word_refusal(who::lent::word_of(records), number, locks);
+    if seat != 0 {
+        return Turned::Refused(seat);
     }
     let s = who::station_at(records, number as usize);
     Turned::Turn {
