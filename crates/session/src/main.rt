@@ -1,5 +1,6 @@
 // Plays a session: the site file site.bin, records from standard input, and a line of text for each. The input comes in
-// blocks; what a block holds of a record that is not whole is kept for the next one.
+// blocks; what a block holds of a record that is not whole is kept for the next one. What cannot be read or written is
+// told on standard error.
 mod block;
 
 use libc::STDIN_FILENO;
