@@ -11,7 +11,7 @@
  *
  * Numbers
  *   A number is 32 bits and is never cut to a byte. 509 is not 253; it is
- *   refused.
+ *   refused. The product of a login alone is a byte, like those of a name.
  *
  * Volume, partition, track and sector
  *   Each has a type of its own, so that a compiler refuses one where another
@@ -44,12 +44,12 @@
  *   After 10 the site file is bad: no frame is served with it. The tables are
  *   as good as they were, and poll turns go on. Load a good file, and check
  *   it by hinet_check_site before it takes the place of the old one.
- *   After 11 the tables, or a station's state, have been written to by
- *   somebody else, or a length is wrong. No entry mends them. Correct the
- *   length, or go back to a copy made between two calls, or begin anew with
- *   hinet_fresh (hinet_station_fresh). After hinet_fresh every station is
- *   logged out and has to log in again. The entries never bring tables that
- *   were good to 11.
+ *   After 11 the tables, or a station's state, were never made fresh, or were
+ *   written to by somebody else, or a call on them was cut off, or a length
+ *   is wrong. The entries never bring tables that were good to 11, and none
+ *   mends them. Correct the length, or begin anew with hinet_fresh
+ *   (hinet_station_fresh). Then every station is logged out and has to log in
+ *   again.
  *
  * Memory, threads, and a call that is cut off
  *   The library has no memory of its own: nothing is kept from one call to
@@ -58,8 +58,10 @@
  *   both lend them as const. No entry waits, allocates or fails halfway.
  *   A call that is cut off midway (power, a killed process) may have written
  *   some of its bytes and not others. hinet_check_tables then tells whether
- *   the tables keep the rules; it cannot tell which of two good states they
- *   are in. To be sure, go back to a copy made between two calls.
+ *   the tables keep the rules; it cannot tell whether the call was done, not
+ *   begun or half done. Go back to a copy made right before that call, or
+ *   begin anew with hinet_fresh. Do not go back to an older copy: it would
+ *   free locks that stations have been granted since.
  *
  * Stack
  *   Bytes that an entry needs on its deepest path, measured by bench/stack
@@ -181,6 +183,7 @@ typedef struct { uint32_t number; } hinet_partition;
 typedef struct { uint32_t number; } hinet_track;
 typedef struct { uint32_t number; } hinet_sector;
 
+/* A volume, a partition, a track: any number. */
 static inline hinet_volume hinet_volume_of(uint32_t number)
 {
     hinet_volume volume;
@@ -277,10 +280,16 @@ static inline uint8_t hinet_answer_code(uint64_t answer)
 /* Fields of a frame that hinet_read_frame or hinet_frame did not refuse; the
  * codes that have the field stand with each. */
 
+/* All: the code, one of HINET_CODE_... */
+static inline uint8_t hinet_request_code(const uint8_t *frame)
+{
+    return frame[0];
+}
+
 /* Read, write, logout: the station that sends. */
 static inline uint8_t hinet_request_src(const uint8_t *frame)
 {
-    return frame[0] == HINET_CODE_LOGOUT ? frame[1] : frame[2];
+    return hinet_request_code(frame) == HINET_CODE_LOGOUT ? frame[1] : frame[2];
 }
 
 /* Read, write. */
@@ -337,6 +346,18 @@ static inline const uint8_t *hinet_request_lockstring(const uint8_t *frame)
     return frame + 1;
 }
 
+/* The length of a lock string, legal from 1 to 13. */
+static inline uint8_t hinet_lockstring_length(const uint8_t *lockstring)
+{
+    return lockstring[0];
+}
+
+/* Its 13 bytes; those after its length mean nothing. */
+static inline const uint8_t *hinet_lockstring_bytes(const uint8_t *lockstring)
+{
+    return lockstring + 1;
+}
+
 /*
  * Each of these writes a request frame at the start of the buffer.
  *
@@ -348,6 +369,8 @@ static inline const uint8_t *hinet_request_lockstring(const uint8_t *frame)
  * 255 does not fit its byte and is written as 255, a track above 65535 as
  * 65535. Those are no station's, no row's and outside of every partition, as
  * the number itself is, so the master refuses the frame with 7, 8 or 9.
+ *
+ * A logout is sent only while no reply is awaited (see the station's end).
  */
 uint64_t hinet_write_acknowledge(uint8_t *buffer, size_t buffer_len);
 
@@ -478,12 +501,14 @@ static inline uint8_t hinet_record_logged_in(const uint8_t *stations, unsigned n
     return stations[HINET_STATION_RECORD_BYTES * number];
 }
 
+/* Polls missed, 0 to 255. */
 static inline unsigned hinet_record_misses(const uint8_t *stations, unsigned number)
 {
     const uint8_t *record = stations + HINET_STATION_RECORD_BYTES * number;
     return record[1] | (unsigned)record[2] << 8;
 }
 
+/* Turns since the last slow poll, 0 to 11. */
 static inline uint8_t hinet_record_slow_turns(const uint8_t *stations, unsigned number)
 {
     return stations[HINET_STATION_RECORD_BYTES * number + 3];
@@ -501,6 +526,7 @@ static inline const uint8_t *hinet_record_serial(const uint8_t *stations, unsign
     return stations + HINET_STATION_RECORD_BYTES * number + 12;
 }
 
+/* The product sent at login. */
 static inline uint8_t hinet_record_product(const uint8_t *stations, unsigned number)
 {
     return stations[HINET_STATION_RECORD_BYTES * number + 16];
@@ -627,7 +653,8 @@ uint64_t hinet_check_site(const uint8_t *site, size_t site_len);
  *
  * Answer and memory, by command:
  *   acknowledge  none (0); nothing changes.
- *   read, write  PLACE; nothing changes. The C program moves the 128 bytes.
+ *   read, write  PLACE; nothing changes. The C program moves the 128 bytes,
+ *                which way hinet_request_code(frame) tells.
  *   login        LOGIN. The lowest free number from 1 to 63 is logged in
  *                with the sent name, serial and product. The C program adds
  *                the login time. With 63 in use the number is 0, name found
@@ -678,16 +705,16 @@ uint64_t hinet_place(hinet_volume volume, hinet_partition partition,
  *   2. Where it is due, poll it, and wait for its frame until the time-out.
  *   3. hinet_poll takes whether it was heard; not due is not heard.
  *   4. Where it was heard, hinet_frame takes its frame, and the answer is
- *      sent. The poll turn comes first: a logout frame ends the number, and a
- *      poll turn after it would be refused.
+ *      sent; for a refused frame nothing is. The poll turn comes first: a
+ *      logout frame ends the number, and a poll turn after it would be
+ *      refused.
  * Then 253 is polled for logins, and only hinet_frame is called.
  * tests/worked_loop.c is such a loop.
  *
- * The answer belongs to the exchange of its own frame. The driver sends it
- * then or never: an answer that is sent later would be taken for that to the
- * next frame. A station's driver drops whatever comes after its own time-out.
- * What this library promises about locks rests on that (see the station's end
- * below): what a station lists is then locked in its name.
+ * An exchange is a poll, the station's frame and the master's answer, and it
+ * ends at the time-out. The master's driver sends the answer in it or never,
+ * and begins the next exchange when the line is quiet. The promise about
+ * locks rests on that: see the station's end below.
  */
 
 /* Kind TURN: 1 when the station was due in this turn, else 0. */
@@ -757,14 +784,20 @@ uint64_t hinet_poll(uint32_t number, uint32_t heard,
  * that frame are given to hinet_station_reply; those to other commands are
  * not. Where a reply was lost, the same frame is sent again and the next one
  * settles it: a lock that was granted is then answered 81, an unlock 02.
+ * While it waits it may also acknowledge, read, write or assign. It sends a
+ * logout only while it waits for nothing, and then it stops. A login that is
+ * answered with number 0 logs nobody in.
  *
- * A status byte does not say which frame it answers. One that comes late,
- * after the driver's time-out, is taken for the reply to whatever is awaited
- * then, and a lock may be listed that is not held: tests/worked_station.c
- * shows it. So the driver drops what comes after its time-out. Where it does,
- * and from the login until the master logs the station out, every lock on the
- * list is the master's in the station's name, and while no reply is awaited
- * both hold the same strings.
+ * A reply counts only in the exchange of its own frame. A status byte does
+ * not say which frame it answers: one that comes late, after the time-out, is
+ * taken for the reply to whatever is awaited then, and a lock may be listed
+ * that is not held. tests/worked_station.c shows it. So the station's driver
+ * takes a status byte only between its own frame and its time-out, and drops
+ * any other; where a late byte could fall into the next exchange, the line
+ * has to be quiet before that begins. Where the drivers see to it, and from
+ * the login until the master logs the station out, every lock on the list is
+ * the master's in the station's name, and while no reply is awaited both hold
+ * the same strings.
  *
  * The list and the frame awaited are judged each by itself: a state is not
  * refused because a frame is awaited that does not fit the list.

@@ -8,6 +8,37 @@
 #include <stdio.h>
 #include <string.h>
 
+/* Each entry once more: a compiler refuses it where the header's differs. */
+#ifdef __cplusplus
+extern "C" {
+#endif
+uint64_t hinet_read_frame(const uint8_t *, size_t);
+uint64_t hinet_write_acknowledge(uint8_t *, size_t);
+uint64_t hinet_write_read(uint32_t, hinet_volume, hinet_partition, hinet_track, hinet_sector, uint8_t *, size_t);
+uint64_t hinet_write_write(uint32_t, hinet_volume, hinet_partition, hinet_track, hinet_sector, uint8_t *, size_t);
+uint64_t hinet_write_login(const uint8_t[8], const uint8_t[6], const uint8_t[4], uint8_t, uint8_t *, size_t);
+uint64_t hinet_write_assign(const uint8_t[8], const uint8_t[6], uint8_t *, size_t);
+uint64_t hinet_write_lock(const uint8_t[14], uint8_t *, size_t);
+uint64_t hinet_write_unlock(const uint8_t[14], uint8_t *, size_t);
+uint64_t hinet_write_clear(uint8_t *, size_t);
+uint64_t hinet_write_logout(uint32_t, uint8_t *, size_t);
+uint64_t hinet_fresh(uint8_t *, size_t, uint8_t *, size_t);
+uint64_t hinet_check_tables(const uint8_t *, size_t, const uint8_t *, size_t);
+uint64_t hinet_check_site(const uint8_t *, size_t);
+uint64_t hinet_frame(uint32_t, const uint8_t *, size_t, const uint8_t *, size_t, uint8_t *, size_t, uint8_t *, size_t);
+uint64_t hinet_place(hinet_volume, hinet_partition, hinet_track, hinet_sector, const uint8_t *, size_t);
+uint64_t hinet_due(uint32_t, const uint8_t *, size_t, const uint8_t *, size_t);
+uint64_t hinet_poll(uint32_t, uint32_t, uint8_t *, size_t, uint8_t *, size_t);
+uint64_t hinet_station_fresh(uint8_t *, size_t);
+uint64_t hinet_station_lock(uint8_t *, size_t, const uint8_t[14]);
+uint64_t hinet_station_unlock(uint8_t *, size_t, const uint8_t[14]);
+uint64_t hinet_station_clear(uint8_t *, size_t);
+uint64_t hinet_station_frame(const uint8_t *, size_t, uint8_t *, size_t);
+uint64_t hinet_station_reply(uint8_t *, size_t, uint32_t);
+#ifdef __cplusplus
+}
+#endif
+
 static unsigned long compared, different;
 
 static void same(const char *what, uint64_t found, uint64_t expected)
@@ -195,23 +226,33 @@ static void word_of_low_bytes(void)
     SAME(hinet_answer_out(word), 0x3B);
 }
 
-/* Each refusal has a text of its own, with a word of its rule in it; a number
- * that is no refusal has another. */
+/* The text of each refusal, and of a number that is none. */
 static void refusal_texts(void)
 {
-    static const char *const words[17] = {
-        "not refused", "empty", "logged in", "frame table", "length", "command", "dtn", "src",
-        "no row", "outside", "site file", "tables", "due", "buffer", "asks", "reply", "no refusal"
+    static const char *const texts[17] = {
+        "not refused",
+        "the frame is empty",
+        "the number is not 0 to 63 or 253, or is not logged in",
+        "the code is not in the frame table",
+        "the frame's length is not that of its code",
+        "the command is not for this number",
+        "dtn is not 0",
+        "src differs from the number polled",
+        "volume and partition name no row of the site file",
+        "track or sector is outside the partition",
+        "the site file breaks a rule",
+        "the tables or the station's state break a rule",
+        "heard in a turn that was not due",
+        "the buffer is too short for the frame",
+        "the station asks while it waits for a reply",
+        "the reply does not fit what the station waits for",
+        "no refusal number"
     };
-    for (unsigned i = 0; i < 17; i++) {
-        const char *text = hinet_refusal_text(i);
-        same(words[i], strstr(text, words[i]) != NULL, 1);
-        for (unsigned j = 0; j < i; j++)
-            same(text, strcmp(text, hinet_refusal_text(j)) != 0, 1);
-    }
-    SAME(strcmp(hinet_refusal_text(255), hinet_refusal_text(16)), 0);
-    SAME(strcmp(hinet_refusal_text(256), hinet_refusal_text(16)), 0);
-    SAME(strcmp(hinet_refusal_text(0xFFFFFFFFu), hinet_refusal_text(16)), 0);
+    for (unsigned i = 0; i < 17; i++)
+        same(texts[i], strcmp(hinet_refusal_text(i), texts[i]) == 0, 1);
+    SAME(strcmp(hinet_refusal_text(255), texts[16]), 0);
+    SAME(strcmp(hinet_refusal_text(256), texts[16]), 0);
+    SAME(strcmp(hinet_refusal_text(0xFFFFFFFFu), texts[16]), 0);
 }
 
 /* ---- fields of frames, tables and states ---- */
@@ -223,6 +264,8 @@ static void request_fields(void)
     static const uint8_t logout[3] = { 0x1F, 0x9A, 0x8B };
     static const uint8_t login[20] = { 0x13, 1, 2, 3, 4, 5, 6, 7, 8, 9, 10, 11, 12, 13, 14,
                                        15, 16, 17, 18, 0xC9 };
+    SAME(hinet_request_code(read), 0x11);
+    SAME(hinet_request_code(logout), 0x1F);
     SAME(hinet_request_src(read), 0xA2);
     SAME(hinet_request_partition(read).number, 0xB3);
     SAME(hinet_request_track(read).number, 0xD5C4);
@@ -239,6 +282,8 @@ static void request_fields(void)
     SAME(hinet_request_serial(login) - login, 15);
     SAME(hinet_request_product(login), 0xC9);
     SAME(hinet_request_lockstring(login) - login, 1);
+    SAME(hinet_lockstring_length(read + 2), 0xA2);
+    SAME(hinet_lockstring_bytes(login) - login, 1);
 }
 
 static void row_fields(void)

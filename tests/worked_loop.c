@@ -54,19 +54,31 @@ static int wire_waits(uint32_t number)
     return number != 1 || rounds != 2;
 }
 
-/* The station gets its answer. */
-static void wire_send(uint32_t number, uint64_t answer)
+/* The station gets the status of its lock. */
+static void wire_status(uint32_t number, uint8_t status)
 {
-    if (hinet_answer_kind(answer) == HINET_KIND_LOGIN) {
-        logged_in = hinet_answer_login_number(answer);
-        tell(logged_in, "logs in");
-        return;
-    }
-    switch (hinet_answer_status(answer)) {
+    switch (status) {
     case HINET_STATUS_DONE:  tell(number, "gets the lock"); over = 1; break;
     case HINET_STATUS_HELD:  tell(number, "has the lock already"); break;
     case HINET_STATUS_TAKEN: tell(number, "another has the lock"); break;
     default:                 tell(number, "no such status"); exit(1);
+    }
+}
+
+/* The station gets its answer. */
+static void wire_send(uint32_t number, uint64_t answer)
+{
+    switch (hinet_answer_kind(answer)) {
+    case HINET_KIND_LOGIN:
+        logged_in = hinet_answer_login_number(answer);
+        tell(logged_in, "logs in");
+        break;
+    case HINET_KIND_STATUS:
+        wire_status(number, hinet_answer_status(answer));
+        break;
+    default:
+        tell(number, "no such answer");
+        exit(1);
     }
 }
 
@@ -85,7 +97,8 @@ static void serve(uint32_t number, const uint8_t *frame, size_t len)
         tell(number, "the answer is late and is dropped");
 }
 
-/* A turn of a station that is logged in. */
+/* A turn of a station that is logged in. What hinet_due refuses, hinet_poll
+ * refuses too. */
 static void turn(uint32_t number)
 {
     uint8_t frame[HINET_LENGTH_MOST];

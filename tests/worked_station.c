@@ -30,7 +30,7 @@ static uint64_t serve(uint32_t polled, uint64_t written)
 
 static void print_string(const uint8_t *string)
 {
-    printf(" %.*s", string[0], (const char *)string + 1);
+    printf(" %.*s", hinet_lockstring_length(string), (const char *)hinet_lockstring_bytes(string));
 }
 
 /* What the station lists, what the master holds for it, and the wait. */
@@ -38,7 +38,7 @@ static void show(const char *what)
 {
     printf("%-28s listed:", what);
     for (unsigned i = 0; i < HINET_STATE_PLACES; i++)
-        if (hinet_state_lockstring(state, i)[0] != 0)
+        if (hinet_lockstring_length(hinet_state_lockstring(state, i)) != 0)
             print_string(hinet_state_lockstring(state, i));
     printf(", held:");
     for (unsigned i = 0; i < HINET_LOCK_ROWS; i++)
@@ -99,29 +99,51 @@ static void lost_replies(void)
     take(send_awaited());
 }
 
+/* ---- the station's driver ---- */
+
+static int careful;             /* does it know when an exchange is over? */
+static int listening;           /* from the frame that is sent to the time-out */
+
+static uint8_t driver_sends(void)
+{
+    listening = 1;
+    return send_awaited();
+}
+
+/* A status byte comes. Nothing in it says which frame it answers. */
+static void driver_hears(uint8_t status)
+{
+    if (careful && !listening) {
+        show_reply(status, "dropped");
+        return;
+    }
+    listening = 0;
+    take(status);
+}
+
 /* User 0 holds B. The first reply to the lock of A comes after the time-out,
  * when the station has sent again, has its reply, and asks for B. */
-static void late_reply(const char *driver, int drops)
+static void late_reply(const char *driver)
 {
     log_in(driver);
     serve(HINET_NUMBER_LOCAL, hinet_write_lock(string_b, frame, sizeof frame));
     hinet_station_lock(state, sizeof state, string_a);
-    uint8_t late = send_awaited();
-    show_reply(late, "delayed");
-    take(send_awaited());
+    uint8_t late = driver_sends();
+    listening = 0;              /* the time-out */
+    show_reply(late, "late");
+    driver_hears(driver_sends());
     hinet_station_lock(state, sizeof state, string_b);
     show("asks to lock B");
-    if (!drops)
-        hinet_station_reply(state, sizeof state, late);     /* B is listed; user 0 holds it */
-    show_reply(late, drops ? "late, dropped" : "late, taken");
-    if (drops)
-        take(send_awaited());
+    driver_hears(late);
+    if (hinet_state_awaited(state) != 0)
+        driver_hears(driver_sends());
 }
 
 int main(void)
 {
     lost_replies();
-    late_reply("a driver that is wrong", 0);
-    late_reply("a driver that is right", 1);
+    late_reply("a driver that is wrong");   /* lists B, which user 0 holds */
+    careful = 1;
+    late_reply("a driver that is right");
     return 0;
 }

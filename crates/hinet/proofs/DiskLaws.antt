@@ -1,17 +1,15 @@
 -- A read or a write that the C program wrote from numbers and sent under its own number: the master answers it with the place of
 -- those numbers, however large they are.
-use Prim.Native.Nat.{ℕ, min, _<_}
+use Prim.Native.Nat.{ℕ, _<_}
 use native.Mathlib.Omega.{arith}
 use mathlib.Core.Path.{_≡_, refl, sym, ap, _∙_}
 use mathlib.Core.Bool.{true, false}
 use mathlib.Core.List.{List, _∷_}
-use lib.Dec.{eqb}
 use lib.ListN.{length, getD, length-append}
 use borrow.Author.Tests.{eq-eqb, ne-eqb}
 use Rattle.rows.proofs.BoolLaws.{by-test, by-eq, both}
 use Rattle.rows.proofs.NumberLaws.{length-lowBytes}
 use Rattle.rows.specs.Outcomes.{Gives}
-use Rattle.terms.specs.declared.Address.{Address}
 use Rattle.frames.specs.Table.{READ, WRITE, carriesAddress}
 use Rattle.frames.specs.Requests.{plain}
 use Rattle.frames.specs.Reading.{code, refusalOf, addressIn, requestIn}

@@ -1,4 +1,5 @@
--- What the C program can rely on of the entries that write and read one request frame. `Typed` and `Bytes` are what the types say.
+-- What the C program can rely on of the entries that write and read one request frame. `Typed` and `Bytes` are what the types
+-- say of every request and every slice.
 use Prim.Native.Nat.{ℕ, _<_, _≤_}
 use native.Mathlib.Omega.{arith}
 use mathlib.Core.Path.{_≡_, refl, sym, ap, subst, _∙_}
@@ -12,20 +13,24 @@ use Rattle.rows.proofs.BoolLaws.{by-test, by-eq}
 pub use Rattle.rows.proofs.NumberLaws.{Bytes}
 use Rattle.rows.specs.Outcomes.{Gives}
 use Rattle.rows.specs.Rows.{part, over}
+use Rattle.terms.specs.declared.LockString.{LockString}
+use Rattle.frames.specs.declared.Command.{Command}
+use Rattle.frames.specs.declared.Command.the-variants.{Read, Write}
 use Rattle.frames.specs.declared.Request.{Request}
 use Rattle.frames.specs.declared.Reading.{Reading}
 use Rattle.frames.specs.Table.{ACKNOWLEDGE, READ, WRITE, LOGIN, ASSIGN, LOCK, UNLOCK, CLEAR, LOGOUT, frameTable, lengthIn, frameLength, carriesAddress}
-use Rattle.frames.specs.Requests.{carried}
+use Rattle.frames.specs.Requests.{plain, carried}
 use Rattle.frames.specs.Reading.{code, refusalOf, requestIn, readingOf}
 use Rattle.frames.specs.Writing.{codeOf, frameOf, writtenOf, bufferAfter}
 use Rattle.frames.proofs.ReadLaws.{well-is}
 use Rattle.frames.proofs.WriteLaws.{frame-long}
 use Rattle.frames.proofs.FieldLaws.{fields-read}
-pub use Rattle.frames.proofs.RoundTrips.{Sized, TrackFits}
+pub use Rattle.frames.proofs.RoundTrips.{Sized, TrackFits, Typed}
 use Rattle.frames.proofs.RoundTrips.{reads-back}
 use Rattle.master.specs.Answers.{answers, frame-of, request-of}
 use Rattle.hinet.specs.Packing.{word, refusalIn, toldIn}
-use Rattle.hinet.specs.FrameEntries.{writtenTold, Composes, readTold, readWord}
+use Rattle.hinet.specs.Entries.{addressOf}
+use Rattle.hinet.specs.FrameEntries.{fieldsFor, readOf, writeOf, namedOf, loginOf, stringOf, writtenTold, Composes, readTold, readWord}
 use Rattle.hinet.proofs.PackLaws.{choice-tells, refused-choice}
 use Rattle.hinet.proofs.TellLaws.{either}
 
@@ -94,8 +99,33 @@ module _ (f : List ℕ) (bytes : Bytes f) (r : ℕ) (done : Gives (readWord f) r
       let told = refused-choice (refusalOf f) read-small (request-of (code f)) (bytes 0) r (done .answer) ne in
       (told .0, told .1)
 
+-- the requests of the entries are typed: those without byte fields, and the others by the lengths that C's arrays have
+pub plain-typed : (c : Command) → TrackFits c → Typed (plain c)
+unfolding plain
+plain-typed c fits = record { sized = record { name = refl; password = refl; serial = refl; string = refl }; track = fits }
+
+pub read-typed : (src v p t x : ℕ) → Typed (readOf src v p t x)
+unfolding readOf fieldsFor addressOf
+read-typed src v p t x = plain-typed (Read _ _) (omega arith)
+
+pub write-typed : (src v p t x : ℕ) → Typed (writeOf src v p t x)
+unfolding writeOf fieldsFor addressOf
+write-typed src v p t x = plain-typed (Write _ _) (omega arith)
+
+pub named-typed : (c : Command) → TrackFits c → (name password : List ℕ) → length name ≡ 8 → length password ≡ 6 → Typed (namedOf c name password)
+unfolding namedOf
+named-typed c fits name password n p = record { sized = record { name = n; password = p; serial = refl; string = refl }; track = fits }
+
+pub login-typed : (name password serial : List ℕ) (product : ℕ) → length name ≡ 8 → length password ≡ 6 → length serial ≡ 4 → Typed (loginOf name password serial product)
+unfolding loginOf
+login-typed name password serial product n p s = record { sized = record { name = n; password = p; serial = s; string = refl }; track = tt }
+
+pub string-typed : (c : Command) → TrackFits c → (x : LockString) → length (x .bytes) ≡ 13 → Typed (stringOf c x)
+unfolding stringOf
+string-typed c fits x full = record { sized = record { name = refl; password = refl; serial = refl; string = full }; track = fits }
+
 -- a request written
-module _ (q : Request) (sized : Sized q) (b : List ℕ) (r : ℕ) (b′ : List ℕ) (done : Composes q b r b′) where
+module _ (q : Request) (typed : Typed q) (b : List ℕ) (r : ℕ) (b′ : List ℕ) (done : Composes q b r b′) where
   refusal-small : writtenOf q (length b) .refusal < 256
   unfolding writtenOf
   refusal-small = by-test (ltb (length b) (length (frameOf q))) (λ y. rw y (omega arith)) (λ m. rw m (omega arith))
@@ -103,7 +133,7 @@ module _ (q : Request) (sized : Sized q) (b : List ℕ) (r : ℕ) (b′ : List �
   -- the word, taken apart, tells the length of the frame, or the refusal
   pub compose-word-tells : toldIn r ≡ writtenTold (writtenOf q (length b))
   unfolding writtenTold
-  compose-word-tells = choice-tells (writtenOf q (length b) .refusal) refusal-small (frame-of (writtenOf q (length b) .length)) (written-short q sized (length b)) r (done .answer)
+  compose-word-tells = choice-tells (writtenOf q (length b) .refusal) refusal-small (frame-of (writtenOf q (length b) .length)) (written-short q (typed .sized) (length b)) r (done .answer)
 
   -- a buffer that is shorter than the frame, and one that is not
   too-short : length b < length (frameOf q) → (r ≡ 13) × (b′ ≡ b)
@@ -129,10 +159,10 @@ module _ (q : Request) (sized : Sized q) (b : List ℕ) (r : ℕ) (b′ : List �
       (λ h. (long-enough h .0, h, long-enough h .1))
 
   -- what was written reads back: its code, and the request without the fields that the command does not carry
-  pub composed-reads-back : TrackFits (q .command) → refusalIn r ≡ 0 → (x : ℕ) → Gives (readWord (take (length (frameOf q)) b′)) x
+  pub composed-reads-back : refusalIn r ≡ 0 → (x : ℕ) → Gives (readWord (take (length (frameOf q)) b′)) x
       → (x ≡ word (answers (request-of (codeOf (q .command))))) × (requestIn (take (length (frameOf q)) b′) ≡ carried q)
   unfolding frameOf carried
-  composed-reads-back fits z x read =
+  composed-reads-back z x read =
       let stands : take (length (frameOf q)) b′ ≡ frameOf q = rw (composed-is-frame z .2) (take-at (frameOf q) (drop (length (frameOf q)) b) (length (frameOf q)) refl) in
-      let well : refusalOf (frameOf q) ≡ 0 = sym (reading-refusal (frameOf q) (readingOf (frameOf q)) (record { answer = refl })) ∙ ap (λ (y : Reading). y .refusal) (reads-back q (record { sized = sized; track = fits })) in
-      (read .answer ∙ ap readWord stands ∙ sym (read-well (frameOf q) well), ap requestIn stands ∙ fields-read (q .command) q sized fits)
+      let well : refusalOf (frameOf q) ≡ 0 = sym (reading-refusal (frameOf q) (readingOf (frameOf q)) (record { answer = refl })) ∙ ap (λ (y : Reading). y .refusal) (reads-back q typed) in
+      (read .answer ∙ ap readWord stands ∙ sym (read-well (frameOf q) well), ap requestIn stands ∙ fields-read (q .command) q (typed .sized) (typed .track))

@@ -36,6 +36,7 @@ const BYTE_2: u64 = 0x1_0000_0000;
 
 const BYTE_3: u64 = 0x100_0000_0000;
 
+// The answer to a frame.
 pub fn pack(a: Answer) -> u64
     ensures { λ r. ⌜ r ≡ word (told a) ⌝ }
 {
@@ -61,6 +62,7 @@ pub fn pack(a: Answer) -> u64
     }
 }
 
+// The place of an address, or its refusal.
 pub fn pack_place(placed: Placed) -> u64
     ensures { λ r. ⌜ r ≡ word (placeTold placed) ⌝ }
 {
@@ -72,6 +74,7 @@ pub fn pack_place(placed: Placed) -> u64
     pack(Answer::At(at))
 }
 
+// The answer to a poll turn.
 pub fn pack_turn(a: Turned) -> u64
     ensures { λ r. ⌜ r ≡ word (turnTold a) ⌝ }
 {

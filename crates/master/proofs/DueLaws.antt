@@ -1,6 +1,5 @@
 -- Whether the next turn is due, as the code finds it and as the turn tells it. Who polls by it never sees 12.
 use Prim.Native.Nat.{ℕ, _<_}
-use native.Mathlib.Omega.{arith}
 use mathlib.Core.Path.{_≡_, refl, sym, ap, _∙_}
 use mathlib.Core.Bool.{Bool, true, false, cond, not, _&&_}
 use mathlib.Core.List.{List}
@@ -14,7 +13,7 @@ use Rattle.who.specs.Logins.{loggedIn}
 use Rattle.who.proofs.RowLaws.{word-in}
 use Rattle.who.proofs.WhoLaws.{good-is, logged-below, stations-logged}
 use Rattle.locks.specs.Good.{goodLocks}
-use Rattle.master.specs.Answers.{Told, refuses, answers, turn-was}
+use Rattle.master.specs.Answers.{refuses, answers, turn-was}
 use Rattle.master.specs.Effects.{unless}
 use Rattle.master.specs.Inner.{seatRefusal}
 use Rattle.master.specs.Polls.{turnRefusal, dueNow, outNow, stationTurn, stationAt, pollRefusal, pollEffect, dueTold}

@@ -1,5 +1,5 @@
 use Rattle.hinet.proofs.FrameLaws.{read-refused, read-well, reading-refusal, well-starts}
-use mathlib.Core.Path.{sym, ap, _∙_}
+use mathlib.Core.Path.{sym, _∙_}
 use borrow.Author.Needs.{needs}
 use Rattle.hinet.proofs.requests.hinet_read_frame.Statement.{statement}
 use Rattle.hinet.proofs.requests.hinet_read_frame.Tie as tie
