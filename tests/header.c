@@ -166,64 +166,38 @@ static void types(void)
 
 /* ---- the answer word ---- */
 
-/* Bytes of this word, lowest first: 91 A2, then B3 C4 D5 E6 F7 88. */
-static void word_of_high_bytes(void)
+/* A word whose bytes are these, lowest first, and the sector of a place in it. */
+static void word_of(uint64_t word, const uint8_t bytes[8], uint32_t sector)
 {
-    const uint64_t word = UINT64_C(0x88F7E6D5C4B3A291);
     uint8_t serial[4] = { 0, 0, 0, 0 };
-    SAME(hinet_answer_refusal(word), 0x91);
-    SAME(hinet_answer_kind(word), 0xA2);
-    SAME(hinet_answer_byte(word, 0), 0xB3);
-    SAME(hinet_answer_byte(word, 1), 0xC4);
-    SAME(hinet_answer_byte(word, 2), 0xD5);
-    SAME(hinet_answer_byte(word, 3), 0xE6);
-    SAME(hinet_answer_byte(word, 4), 0xF7);
-    SAME(hinet_answer_byte(word, 5), 0x88);
-    SAME(hinet_answer_code(word), 0xB3);
-    SAME(hinet_answer_length(word), 0xB3);
-    SAME(hinet_answer_status(word), 0xB3);
-    SAME(hinet_answer_assign_size(word), 0xB3);
-    SAME(hinet_answer_assign_partition(word).number, 0xC4);
-    SAME(hinet_answer_assign_control(word), 0xD5);
-    SAME(hinet_answer_assign_volume(word).number, 0xE6);
-    SAME(hinet_answer_place_volume(word).number, 0xB3);
-    SAME(hinet_answer_place_sector(word), 0xF7E6D5C4u);
-    SAME(hinet_answer_login_number(word), 0xB3);
-    SAME(hinet_answer_login_found(word), 0xC4);
+    SAME(hinet_answer_refusal(word), bytes[0]);
+    SAME(hinet_answer_kind(word), bytes[1]);
+    for (unsigned i = 0; i < 6; i++)
+        SAME(hinet_answer_byte(word, i), bytes[2 + i]);
+    SAME(hinet_answer_code(word), bytes[2]);
+    SAME(hinet_answer_length(word), bytes[2]);
+    SAME(hinet_answer_status(word), bytes[2]);
+    SAME(hinet_answer_assign_size(word), bytes[2]);
+    SAME(hinet_answer_assign_partition(word).number, bytes[3]);
+    SAME(hinet_answer_assign_control(word), bytes[4]);
+    SAME(hinet_answer_assign_volume(word).number, bytes[5]);
+    SAME(hinet_answer_place_volume(word).number, bytes[2]);
+    SAME(hinet_answer_place_sector(word), sector);
+    SAME(hinet_answer_login_number(word), bytes[2]);
+    SAME(hinet_answer_login_found(word), bytes[3]);
     hinet_answer_login_serial(word, serial);
-    same_bytes("hinet_answer_login_serial", serial, "\xD5\xE6\xF7\x88", 4);
-    SAME(hinet_answer_due(word), 0xB3);
-    SAME(hinet_answer_out(word), 0xC4);
+    same_bytes("hinet_answer_login_serial", serial, (const char *)bytes + 4, 4);
+    SAME(hinet_answer_due(word), bytes[2]);
+    SAME(hinet_answer_out(word), bytes[3]);
 }
 
-/* The same with the other bits set: 6E 5D, then 4C 3B 2A 19 08 77. */
-static void word_of_low_bytes(void)
+/* Two words: where a bit is set in one of them it is not set in the other. */
+static void words(void)
 {
-    const uint64_t word = UINT64_C(0x7708192A3B4C5D6E);
-    uint8_t serial[4] = { 0, 0, 0, 0 };
-    SAME(hinet_answer_refusal(word), 0x6E);
-    SAME(hinet_answer_kind(word), 0x5D);
-    SAME(hinet_answer_byte(word, 0), 0x4C);
-    SAME(hinet_answer_byte(word, 1), 0x3B);
-    SAME(hinet_answer_byte(word, 2), 0x2A);
-    SAME(hinet_answer_byte(word, 3), 0x19);
-    SAME(hinet_answer_byte(word, 4), 0x08);
-    SAME(hinet_answer_byte(word, 5), 0x77);
-    SAME(hinet_answer_code(word), 0x4C);
-    SAME(hinet_answer_length(word), 0x4C);
-    SAME(hinet_answer_status(word), 0x4C);
-    SAME(hinet_answer_assign_size(word), 0x4C);
-    SAME(hinet_answer_assign_partition(word).number, 0x3B);
-    SAME(hinet_answer_assign_control(word), 0x2A);
-    SAME(hinet_answer_assign_volume(word).number, 0x19);
-    SAME(hinet_answer_place_volume(word).number, 0x4C);
-    SAME(hinet_answer_place_sector(word), 0x08192A3Bu);
-    SAME(hinet_answer_login_number(word), 0x4C);
-    SAME(hinet_answer_login_found(word), 0x3B);
-    hinet_answer_login_serial(word, serial);
-    same_bytes("hinet_answer_login_serial", serial, "\x2A\x19\x08\x77", 4);
-    SAME(hinet_answer_due(word), 0x4C);
-    SAME(hinet_answer_out(word), 0x3B);
+    static const uint8_t high[8] = { 0x91, 0xA2, 0xB3, 0xC4, 0xD5, 0xE6, 0xF7, 0x88 };
+    static const uint8_t low[8] = { 0x6E, 0x5D, 0x4C, 0x3B, 0x2A, 0x19, 0x08, 0x77 };
+    word_of(UINT64_C(0x88F7E6D5C4B3A291), high, 0xF7E6D5C4u);
+    word_of(UINT64_C(0x7708192A3B4C5D6E), low, 0x08192A3Bu);
 }
 
 /* The text of each refusal, and of a number that is none. */
@@ -428,8 +402,7 @@ int main(void)
     table_constants();
     version();
     types();
-    word_of_high_bytes();
-    word_of_low_bytes();
+    words();
     refusal_texts();
     request_fields();
     row_fields();

@@ -10,6 +10,7 @@ use borrow.Author.Tests.{eq-eqb, ne-eqb}
 use Rattle.rows.proofs.BoolLaws.{by-test, by-eq, both}
 use Rattle.rows.proofs.NumberLaws.{length-lowBytes}
 use Rattle.rows.specs.Outcomes.{Gives}
+use Rattle.frames.specs.declared.Command.the-variants.{Read, Write}
 use Rattle.frames.specs.Table.{READ, WRITE, carriesAddress}
 use Rattle.frames.specs.Requests.{plain}
 use Rattle.frames.specs.Reading.{code, refusalOf, addressIn, requestIn}
@@ -28,7 +29,7 @@ use Rattle.master.specs.Frames.{placeTold, effectOf, requestEffect, frameEffect
 use Rattle.master.proofs.PollLaws.{polled-below}
 use Rattle.hinet.specs.Packing.{word}
 use Rattle.hinet.specs.Entries.{addressOf, placeWord, Served}
-use Rattle.hinet.specs.FrameEntries.{byteField, fieldsFor, readOf, writeOf}
+use Rattle.hinet.specs.FrameEntries.{byteField, fieldsFor, diskOf}
 use Rattle.hinet.proofs.PlaceLaws.{fields-placed}
 
 module _ (n : ℕ) (s t w : List ℕ) (good : goodTables t w ≡ true) (inside : loggedIn w n ≡ true) where
@@ -102,10 +103,10 @@ module _ (n : ℕ) (s t w : List ℕ) (good : goodTables t w ≡ true) (inside :
     written-served r q t′ w′ done place = done .answer ∙ ap word written-told ∙ sym (place .answer)
 
   -- `hinet_frame` answers what `hinet_write_read` and `hinet_write_write` wrote as `hinet_place` answers the same numbers
-  pub read-served : (v p tr x r q : ℕ) (t′ w′ : List ℕ) → Served n (frameOf (readOf n v p tr x)) s t w r t′ w′ → Gives (placeWord s (addressOf v p tr x)) q → r ≡ q
-  unfolding frameOf readOf plain codeOf fieldsOf carriesAddress
+  pub read-served : (v p tr x r q : ℕ) (t′ w′ : List ℕ) → Served n (frameOf (diskOf Read n v p tr x)) s t w r t′ w′ → Gives (placeWord s (addressOf v p tr x)) q → r ≡ q
+  unfolding frameOf diskOf plain codeOf fieldsOf carriesAddress
   read-served = written-served READ refl
 
-  pub write-served : (v p tr x r q : ℕ) (t′ w′ : List ℕ) → Served n (frameOf (writeOf n v p tr x)) s t w r t′ w′ → Gives (placeWord s (addressOf v p tr x)) q → r ≡ q
-  unfolding frameOf writeOf plain codeOf fieldsOf carriesAddress
+  pub write-served : (v p tr x r q : ℕ) (t′ w′ : List ℕ) → Served n (frameOf (diskOf Write n v p tr x)) s t w r t′ w′ → Gives (placeWord s (addressOf v p tr x)) q → r ≡ q
+  unfolding frameOf diskOf plain codeOf fieldsOf carriesAddress
   write-served = written-served WRITE refl

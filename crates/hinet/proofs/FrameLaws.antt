@@ -2,7 +2,7 @@
 -- say of every request and every slice.
 use Prim.Native.Nat.{ℕ, _<_, _≤_}
 use native.Mathlib.Omega.{arith}
-use mathlib.Core.Path.{_≡_, refl, sym, ap, subst, _∙_}
+use mathlib.Core.Path.{_≡_, refl, sym, ap, ap₂, subst, _∙_}
 use mathlib.Core.Bool.{not, _&&_}
 use mathlib.Core.List.{List}
 use lib.Dec.{eqb, ltb}
@@ -13,9 +13,9 @@ use Rattle.rows.proofs.BoolLaws.{by-test, by-eq}
 pub use Rattle.rows.proofs.NumberLaws.{Bytes}
 use Rattle.rows.specs.Outcomes.{Gives}
 use Rattle.rows.specs.Rows.{part, over}
+use Rattle.terms.specs.declared.Address.{Address}
 use Rattle.terms.specs.declared.LockString.{LockString}
 use Rattle.frames.specs.declared.Command.{Command}
-use Rattle.frames.specs.declared.Command.the-variants.{Read, Write}
 use Rattle.frames.specs.declared.Request.{Request}
 use Rattle.frames.specs.declared.Reading.{Reading}
 use Rattle.frames.specs.Table.{ACKNOWLEDGE, READ, WRITE, LOGIN, ASSIGN, LOCK, UNLOCK, CLEAR, LOGOUT, frameTable, lengthIn, frameLength, carriesAddress}
@@ -30,7 +30,7 @@ use Rattle.frames.proofs.RoundTrips.{reads-back}
 use Rattle.master.specs.Answers.{answers, frame-of, request-of}
 use Rattle.hinet.specs.Packing.{word, refusalIn, toldIn}
 use Rattle.hinet.specs.Entries.{addressOf}
-use Rattle.hinet.specs.FrameEntries.{fieldsFor, readOf, writeOf, namedOf, loginOf, stringOf, writtenTold, Composes, readTold, readWord}
+use Rattle.hinet.specs.FrameEntries.{byteField, fieldsFor, diskOf, namedOf, loginOf, stringOf, frameTold, Composes, readTold, readWord}
 use Rattle.hinet.proofs.PackLaws.{choice-tells, refused-choice}
 use Rattle.hinet.proofs.TellLaws.{either}
 
@@ -62,6 +62,10 @@ written-short q sized n = by-test (ltb n (length (frameOf q)))
 -- an entry writes the request that its contract names
 pub composed : {p q : Request} (b : List ℕ) {r : ℕ} {b′ : List ℕ} → p ≡ q → Composes p b r b′ → Composes q b r b′
 composed b {r = r} {b′ = b′} e done = subst (λ (x : Request). Composes x b r b′) e done
+
+pub disk-composed : (c : ℕ → Address → Command) (src v p t x : ℕ) (b : List ℕ) {q : Request} {s : ℕ} {a : Address} {r : ℕ} {b′ : List ℕ} → q ≡ plain (c s a) → s ≡ byteField src → a ≡ fieldsFor v p t x → Composes q b r b′ → Composes (diskOf c src v p t x) b r b′
+unfolding diskOf
+disk-composed c src v p t x b e i j done = composed b (e ∙ ap₂ (λ (s : ℕ) (a : Address). plain (c s a)) i j) done
 
 -- what a reading refuses, and the first byte of a frame that reads well
 pub reading-refusal : (f : List ℕ) (r : Reading) → Gives (readingOf f) r → r .refusal ≡ refusalOf f
@@ -104,13 +108,9 @@ pub plain-typed : (c : Command) → TrackFits c → Typed (plain c)
 unfolding plain
 plain-typed c fits = record { sized = record { name = refl; password = refl; serial = refl; string = refl }; track = fits }
 
-pub read-typed : (src v p t x : ℕ) → Typed (readOf src v p t x)
-unfolding readOf fieldsFor addressOf
-read-typed src v p t x = plain-typed (Read _ _) (omega arith)
-
-pub write-typed : (src v p t x : ℕ) → Typed (writeOf src v p t x)
-unfolding writeOf fieldsFor addressOf
-write-typed src v p t x = plain-typed (Write _ _) (omega arith)
+pub disk-typed : (c : ℕ → Address → Command) → ((s : ℕ) (a : Address) → a .track .0 < 65536 → TrackFits (c s a)) → (src v p t x : ℕ) → Typed (diskOf c src v p t x)
+unfolding diskOf fieldsFor addressOf
+disk-typed c fits src v p t x = plain-typed (c _ _) (fits _ _ (omega arith))
 
 pub named-typed : (c : Command) → TrackFits c → (name password : List ℕ) → length name ≡ 8 → length password ≡ 6 → Typed (namedOf c name password)
 unfolding namedOf
@@ -131,17 +131,16 @@ module _ (q : Request) (typed : Typed q) (b : List ℕ) (r : ℕ) (b′ : List �
   refusal-small = by-test (ltb (length b) (length (frameOf q))) (λ y. rw y (omega arith)) (λ m. rw m (omega arith))
 
   -- the word, taken apart, tells the length of the frame, or the refusal
-  pub compose-word-tells : toldIn r ≡ writtenTold (writtenOf q (length b))
-  unfolding writtenTold
+  pub compose-word-tells : toldIn r ≡ frameTold (writtenOf q (length b) .refusal) (writtenOf q (length b) .length)
   compose-word-tells = choice-tells (writtenOf q (length b) .refusal) refusal-small (frame-of (writtenOf q (length b) .length)) (written-short q (typed .sized) (length b)) r (done .answer)
 
   -- a buffer that is shorter than the frame, and one that is not
   too-short : length b < length (frameOf q) → (r ≡ 13) × (b′ ≡ b)
-  unfolding writtenOf writtenTold bufferAfter word
+  unfolding writtenOf bufferAfter word
   too-short h = let y = lt-ltb (length b) (length (frameOf q)) h in (done .answer ∙ rw y, done .left ∙ rw y)
 
   long-enough : length (frameOf q) ≤ length b → (r ≡ word (answers (frame-of (length (frameOf q))))) × (b′ ≡ over (frameOf q) b)
-  unfolding writtenOf writtenTold bufferAfter
+  unfolding writtenOf bufferAfter
   long-enough h = let m = le-ltb (length b) (length (frameOf q)) h in (done .answer ∙ rw m, done .left ∙ rw m)
 
   by-room : {P : Type 0} → (length b < length (frameOf q) → P) → (length (frameOf q) ≤ length b → P) → P

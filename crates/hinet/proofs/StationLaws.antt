@@ -16,7 +16,8 @@ use Rattle.station.specs.Asks.{waits, askRefusal, frameAwaited, sendRefusal, se
 use Rattle.station.specs.Replies.{fits, grants, carriesLength, adds, replyRefusal, Replies}
 use Rattle.station.proofs.Cases.{sent-short}
 use Rattle.hinet.specs.Packing.{word, refusalIn, toldIn}
-use Rattle.hinet.specs.StationEntries.{stepTold, Steps, Takes, sentTold, Sends}
+use Rattle.hinet.specs.StationEntries.{stepTold, Steps, Takes, Sends}
+use Rattle.hinet.specs.FrameEntries.{frameTold}
 use Rattle.hinet.proofs.PackLaws.{choice-tells, refused-choice}
 use Rattle.hinet.proofs.TellLaws.{either}
 use Rattle.master.specs.Answers.{no-bytes, frame-of}
@@ -96,12 +97,11 @@ module _ (st : List ℕ) (n : ℕ) where
 
 -- the word of a frame sent tells its length; a refused one is its number alone and leaves the buffer as it was
 module _ (st b : List ℕ) (r : ℕ) (b′ : List ℕ) (done : Sends st b r b′) where
-  pub send-word-tells : toldIn r ≡ sentTold (sentOf st (length b))
-  unfolding sentTold
+  pub send-word-tells : toldIn r ≡ frameTold (sentOf st (length b) .refusal) (sentOf st (length b) .length)
   send-word-tells = choice-tells (sentOf st (length b) .refusal) (send-small st (length b)) (frame-of (sentOf st (length b) .length)) (sent-short st (length b)) r (done .answer)
 
   pub refused-send-untouched : (refusalIn r ≡ 0 → ⊥) → (r ≡ refusalIn r) × (b′ ≡ b)
-  unfolding sentTold bufferAfter
+  unfolding bufferAfter
   refused-send-untouched ne =
       let told = refused-choice (sentOf st (length b) .refusal) (send-small st (length b)) (frame-of (sentOf st (length b) .length)) (sent-short st (length b)) r (done .answer) ne in
       let refused = rw (sent-refusal st (length b)) at (told .2) in

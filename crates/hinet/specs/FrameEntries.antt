@@ -6,9 +6,8 @@ use Rattle.rows.specs.Outcomes.{Leaves}
 use Rattle.terms.specs.declared.Address.{Address}
 use Rattle.terms.specs.declared.LockString.{LockString}
 use Rattle.frames.specs.declared.Command.{Command}
-use Rattle.frames.specs.declared.Command.the-variants.{Read, Write, Login, Logout}
+use Rattle.frames.specs.declared.Command.the-variants.{Login, Logout}
 use Rattle.frames.specs.declared.Request.{Request}
-use Rattle.frames.specs.declared.Written.{Written}
 use Rattle.frames.specs.Requests.{noString, plain}
 use Rattle.frames.specs.Reading.{code, refusalOf}
 use Rattle.frames.specs.Writing.{writtenOf, bufferAfter}
@@ -24,12 +23,9 @@ byteField n = min n 255
 unfoldable pub fieldsFor : ℕ → ℕ → ℕ → ℕ → Address
 fieldsFor v p t x = addressOf (byteField v) (byteField p) (min t 65535) (byteField x)
 
--- the request of each entry
-unfoldable pub readOf : ℕ → ℕ → ℕ → ℕ → ℕ → Request
-readOf src v p t x = plain (Read (byteField src) (fieldsFor v p t x))
-
-unfoldable pub writeOf : ℕ → ℕ → ℕ → ℕ → ℕ → Request
-writeOf src v p t x = plain (Write (byteField src) (fieldsFor v p t x))
+-- the request of each entry. A read or a write, which c makes, of numbers
+unfoldable pub diskOf : (ℕ → Address → Command) → ℕ → ℕ → ℕ → ℕ → ℕ → Request
+diskOf c src v p t x = plain (c (byteField src) (fieldsFor v p t x))
 
 unfoldable pub logoutOf : ℕ → Request
 logoutOf src = plain (Logout (byteField src))
@@ -45,13 +41,13 @@ loginOf name password serial product = record { command = Login product; name = 
 unfoldable pub stringOf : Command → LockString → Request
 stringOf c s = record { command = c; name = replicate 8 0; password = replicate 6 0; serial = replicate 4 0; string = s }
 
--- a frame written tells its length; 13 where the buffer is shorter
-unfoldable pub writtenTold : Written → Told
-writtenTold w = answersUnless (w .refusal) (frame-of (w .length))
+-- a frame written tells its length; or it is refused, 0 for none
+abbrev pub frameTold : ℕ → ℕ → Told
+frameTold k l = answersUnless k (frame-of l)
 
 -- the request q written: the word of that, and the buffer with the frame at its start or as it was
 abbrev pub Composes : Request → List ℕ → ℕ → List ℕ → Type 0
-Composes q b = Leaves (word (writtenTold (writtenOf q (length b)))) (bufferAfter q b)
+Composes q b = Leaves (word (frameTold (writtenOf q (length b) .refusal) (writtenOf q (length b) .length))) (bufferAfter q b)
 
 -- a frame read tells its code; 1, 3, 4 or 6 where it does not read well
 unfoldable pub readTold : List ℕ → Told

@@ -6,11 +6,11 @@ use lib.Dec.{eqb}
 use lib.ListN.{length}
 use Rattle.rows.specs.Outcomes.{Leaves}
 use Rattle.terms.specs.declared.LockString.{LockString}
-use Rattle.master.specs.Answers.{Told, no-bytes, frame-of, answersUnless}
-use Rattle.station.specs.declared.Sent.{Sent}
+use Rattle.master.specs.Answers.{Told, no-bytes, answersUnless}
 use Rattle.station.specs.Asks.{freshState, askRefusal, afterLock, afterUnlock, afterClear, sentOf, bufferAfter, freshRefusal}
 use Rattle.station.specs.Replies.{replyRefusal, afterReply}
 use Rattle.hinet.specs.Packing.{word}
+use Rattle.hinet.specs.FrameEntries.{frameTold}
 
 -- a step of the station has nothing to tell but its refusal, 0 for none
 unfoldable pub stepTold : ℕ → Told
@@ -37,8 +37,5 @@ abbrev pub Takes : List ℕ → ℕ → ℕ → List ℕ → Type 0
 Takes st n = Steps (replyRefusal st n) (afterReply st n) st
 
 -- a frame sent tells its length, 0 where nothing is awaited
-unfoldable pub sentTold : Sent → Told
-sentTold s = answersUnless (s .refusal) (frame-of (s .length))
-
 abbrev pub Sends : List ℕ → List ℕ → ℕ → List ℕ → Type 0
-Sends st b = Leaves (word (sentTold (sentOf st (length b)))) (bufferAfter st b)
+Sends st b = Leaves (word (frameTold (sentOf st (length b) .refusal) (sentOf st (length b) .length))) (bufferAfter st b)

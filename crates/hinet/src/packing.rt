@@ -1,16 +1,13 @@
 // An answer as one word (specs/Packing.antt).
-use frames::Written;
 use master::Answer;
 use master::Turned;
 use site::Placed;
-use station::Sent;
 ghost use mathlib.Core.Path.{_≡_};
-ghost use Prim.Native.Nat.{_<_};
 ghost use Rattle.master.specs.Answers.{answers, request-of, told, turnTold};
 ghost use Rattle.master.specs.Frames.{placeTold};
 ghost use Rattle.hinet.specs.Packing.{word};
-ghost use Rattle.hinet.specs.FrameEntries.{writtenTold};
-ghost use Rattle.hinet.specs.StationEntries.{stepTold, sentTold};
+ghost use Rattle.hinet.specs.FrameEntries.{frameTold};
+ghost use Rattle.hinet.specs.StationEntries.{stepTold};
 
 // The kinds of answer, in bits 8 to 15.
 const STATUS: u64 = 0x100;
@@ -91,27 +88,14 @@ pub fn pack_step(refusal: u8) -> u64
     refusal as u64
 }
 
-// A frame sent: its refusal, or its length.
-pub fn pack_sent(sent: Sent) -> u64
-    ensures { λ r. ⌜ r ≡ word (sentTold sent) ⌝ }
+// A frame written: its refusal, or its length.
+pub fn pack_frame(refusal: u8, length: u8) -> u64
+    ensures { λ r. ⌜ r ≡ word (frameTold refusal length) ⌝ }
 {
-    let refusal = sent.refusal;
     if refusal != 0 {
         return refusal as u64;
     }
-    WRITTEN + sent.length as u64 * BYTE_0
-}
-
-// A frame written: 13, or its length.
-pub fn pack_written(written: Written) -> u64
-    requires { ⌜ written .length < 256 ⌝ }
-    ensures { λ r. ⌜ r ≡ word (writtenTold written) ⌝ }
-{
-    let refusal = written.refusal;
-    if refusal != 0 {
-        return refusal as u64;
-    }
-    WRITTEN + written.length as u64 * BYTE_0
+    WRITTEN + length as u64 * BYTE_0
 }
 
 // A frame that reads well: its code.

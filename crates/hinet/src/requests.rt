@@ -7,15 +7,16 @@ use frames::Request;
 ghost use mathlib.Core.Path.{_≡_};
 ghost use Rattle.rows.specs.Outcomes.{Gives};
 ghost use Rattle.terms.specs.Strings.{stringAt};
-ghost use Rattle.frames.specs.declared.Command.the-variants.{Acknowledge, Assign, Lock, Unlock, Clear};
+ghost use Rattle.frames.specs.declared.Command.the-variants.{Acknowledge, Read, Write, Assign, Lock, Unlock, Clear};
 ghost use Rattle.frames.specs.Requests.{plain};
-ghost use Rattle.hinet.specs.FrameEntries.{readOf, writeOf, logoutOf, loginOf, namedOf, stringOf, Composes, readWord};
+ghost use Rattle.hinet.specs.FrameEntries.{diskOf, logoutOf, loginOf, namedOf, stringOf, Composes, readWord};
 
 // Writes the frame of a request.
 fn compose(q: Request, buffer: &mut [u8]) -> u64
     ensures { λ r. ⌜ Composes q (now (buffer .entry)) r (now (buffer .exit)) ⌝ }
 {
-    packing::pack_written(frames::write(q, buffer))
+    let written = frames::write(q, buffer);
+    packing::pack_frame(written.refusal, written.length as u8)
 }
 
 // 41: acknowledge.
@@ -36,7 +37,7 @@ pub extern "C" fn hinet_write_read(
     sector: u32,
     buffer: &mut [u8],
 ) -> u64
-    ensures { λ r. ⌜ Composes (readOf src volume partition track sector) (now (buffer .entry)) r (now (buffer .exit)) ⌝ }
+    ensures { λ r. ⌜ Composes (diskOf Read src volume partition track sector) (now (buffer .entry)) r (now (buffer .exit)) ⌝ }
 {
     let src = given::byte_of(src);
     let from = given::address_of(volume, partition, track, sector);
@@ -53,7 +54,7 @@ pub extern "C" fn hinet_write_write(
     sector: u32,
     buffer: &mut [u8],
 ) -> u64
-    ensures { λ r. ⌜ Composes (writeOf src volume partition track sector) (now (buffer .entry)) r (now (buffer .exit)) ⌝ }
+    ensures { λ r. ⌜ Composes (diskOf Write src volume partition track sector) (now (buffer .entry)) r (now (buffer .exit)) ⌝ }
 {
     let src = given::byte_of(src);
     let to = given::address_of(volume, partition, track, sector);

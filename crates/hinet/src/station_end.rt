@@ -41,7 +41,8 @@ pub extern "C" fn hinet_station_clear(station: &mut [u8]) -> u64
 pub extern "C" fn hinet_station_frame(station: &[u8], buffer: &mut [u8]) -> u64
     ensures { λ r. ⌜ Sends (now (station .entry)) (now (buffer .entry)) r (now (buffer .exit)) ⌝ }
 {
-    packing::pack_sent(station::send(station, buffer))
+    let sent = station::send(station, buffer);
+    packing::pack_frame(sent.refusal, sent.length)
 }
 
 // Takes a reply to the frame awaited: 11, 15. A number above 255 is taken for 255, which no request lists either.

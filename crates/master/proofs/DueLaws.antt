@@ -10,8 +10,7 @@ use Rattle.rows.specs.Numbers.{bitAt}
 use Rattle.who.specs.Good.{numbers, stationsOf, goodRecords}
 use Rattle.who.specs.Inner.{wordOf}
 use Rattle.who.specs.Logins.{loggedIn}
-use Rattle.who.proofs.RowLaws.{word-in}
-use Rattle.who.proofs.WhoLaws.{good-is, logged-below, stations-logged}
+use Rattle.who.proofs.WhoLaws.{good-is, logged-below, word-logged}
 use Rattle.locks.specs.Good.{goodLocks}
 use Rattle.master.specs.Answers.{refuses, answers, turn-was}
 use Rattle.master.specs.Effects.{unless}
@@ -21,20 +20,16 @@ use Rattle.master.specs.Tables.{goodTables}
 use Rattle.master.proofs.Outcomes.{no-answer}
 use Rattle.master.proofs.PollLaws.{seated, refusal-last}
 
--- the word of who is logged in, over good records, says what they say
-pub word-inside : (w : List ℕ) → goodRecords w ≡ true → (word : ℕ) → word ≡ wordOf (stationsOf w) → bitAt word ≡ loggedIn w
-word-inside w good word is = ap bitAt is ∙ (λ d i. (word-in (stationsOf w) i ∙ stations-logged w (good-is w good .sized) i) d)
-
 module _ (n : ℕ) (t w : List ℕ) where
   pub due-bad : goodRecords w ≡ false → dueTold n t w ≡ refuses 11
   unfolding dueTold pollRefusal turnRefusal goodTables
   due-bad m = rw m
 
-  -- so it refuses as they do
+  -- the word of who is logged in refuses as the records do
   module _ (good : goodRecords w ≡ true) (word : ℕ) (is : word ≡ wordOf (stationsOf w)) where
     seat-same : seatRefusal (goodLocks (bitAt word) t) (bitAt word) n ≡ pollRefusal n false t w
     unfolding seatRefusal pollRefusal turnRefusal goodTables
-    seat-same = rw good (ap (λ (p : ℕ → Bool). turnRefusal (goodLocks p t) p n false true) (word-inside w good word is))
+    seat-same = rw good (ap (λ (p : ℕ → Bool). turnRefusal (goodLocks p t) p n false true) (word-logged w (good-is w good .sized) word is))
 
     module _ (k : ℕ) (seat : k ≡ seatRefusal (goodLocks (bitAt word) t) (bitAt word) n) where
       pub due-refused : (k ≡ 0 → ⊥) → dueTold n t w ≡ refuses k

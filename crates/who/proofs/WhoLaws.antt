@@ -13,13 +13,15 @@ use Rattle.rows.proofs.IndexLaws.{first-least, all-at, all-from, first-found, f
 use Rattle.rows.proofs.RowLaws.{copies-front, row-copies, getD-part, over-first, length-copies, length-setRow, row-setRow, row-setRow-other}
 use Rattle.rows.specs.Words.{all, first}
 use Rattle.rows.specs.Rows.{put, over, copies, row, setRow}
+use Rattle.rows.specs.Numbers.{bitAt}
 use Rattle.who.specs.declared.Station.{Station}
 use Rattle.who.specs.Records.{bytesOf, stationOf, nobody, localUser}
 use Rattle.who.specs.Good.{goodCounts, numbers, goodRow, isRow, stationsOf, goodRecords}
 use Rattle.who.specs.Row.{isIn}
+use Rattle.who.specs.Inner.{wordOf}
 use Rattle.who.specs.Logins.{recordCount, loggedIn, freeNumber, lowestNumber, afterLogin, afterLogout, freshRecords}
 use Rattle.who.proofs.RecordLaws.{Sound, nobody-sound, local-sound, flag-back, logged-bytesOf, length-bytesOf, bytesOf-sound}
-use Rattle.who.proofs.RowLaws.{in-past, length-stations, station-read, rulesAt, row-each, row-is, is-row}
+use Rattle.who.proofs.RowLaws.{in-past, word-in, length-stations, station-read, rulesAt, row-each, row-is, is-row}
 
 -- records that keep the rules
 pub record Good (w : List ℕ) : Type 0 where
@@ -62,6 +64,10 @@ module _ (w : List ℕ) (sized : length w ≡ 18 * numbers) where
   stations-logged n = by-test (ltb n numbers)
       (λ y. let l = ltb-true n numbers y in ap (λ (s : Station). s .logged) (station-read w n l) ∙ sym (logged-at n l))
       (λ f. let out = ltb-false n numbers f in in-past (stationsOf w) n (omega (arith, length-stations w)) ∙ sym (logged-past n out))
+
+  -- and as in the word of that row
+  pub word-logged : (word : ℕ) → word ≡ wordOf (stationsOf w) → bitAt word ≡ loggedIn w
+  word-logged word is = ap bitAt is ∙ (λ d n. (word-in (stationsOf w) n ∙ stations-logged n) d)
 
 -- record n set to r
 module _ (w : List ℕ) (sized : length w ≡ 18 * numbers) (n : ℕ) (b : n < numbers) (r : List ℕ) (full : length r ≡ 18) where

@@ -1,7 +1,6 @@
 use Rattle.master.specs.Tables.{goodTables}
 use Rattle.locks.specs.Good.{goodLocks}
-use Rattle.who.proofs.WhoLaws.{good-is}
-use Rattle.master.proofs.DueLaws.{word-inside}
+use Rattle.who.proofs.WhoLaws.{good-is, word-logged}
 use borrow.Author.Tests.{not-true, not-false}
 use denote.Ref.{now}
 use mathlib.Core.Bool.{Bool}
@@ -29,7 +28,7 @@ returns-2 c =
     let w = now (start .args .records) in
     let t = now (start .args .locks) in
     let good = sym (check .before .is-good .ensures .answer) ∙ not-false _ (check .if1 .left) in
-    let inside = word-inside w good _ (word .word-of .ensures) in
+    let inside = word-logged w (good-is w good .sized) _ (word .word-of .ensures) in
     record { answer = rw good (c .is-good2 .ensures .answer ∙ ap (λ (p : ℕ → Bool). goodLocks p t) inside) }
 
 pub tables-good-spec : {M : Type 1} → statement M

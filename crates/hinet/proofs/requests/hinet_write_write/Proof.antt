@@ -1,14 +1,12 @@
-use Rattle.hinet.proofs.FrameLaws.{composed}
-use Rattle.hinet.specs.FrameEntries.{writeOf}
-use mathlib.Core.Path.{_∙_}
+use Rattle.frames.specs.declared.Command.the-variants.{Write}
+use Rattle.hinet.proofs.FrameLaws.{disk-composed}
 use borrow.Author.Needs.{needs}
 use Rattle.hinet.proofs.requests.hinet_write_write.Statement.{statement}
 use Rattle.hinet.proofs.requests.hinet_write_write.Tie as tie
 
 returns : tie.Need-returns
-unfolding writeOf
 returns c = let made = c .before .before .before .before in
-    composed _ (made .plain .ensures .answer ∙ rw (made .before .address-of .ensures, made .before .before .byte-of .ensures)) (c .before .before .compose .ensures)
+    disk-composed Write _ _ _ _ _ _ (made .plain .ensures .answer) (made .before .before .byte-of .ensures) (made .before .address-of .ensures) (c .before .before .compose .ensures)
 
 pub hinet-write-write-spec : {M : Type 1} → statement M
 hinet-write-write-spec =
