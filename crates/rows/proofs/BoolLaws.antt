@@ -1,7 +1,7 @@
 -- A test and what it tells.
-use Prim.Native.Nat.{ℕ}
+use Prim.Native.Nat.{ℕ, _<_}
 use mathlib.Core.Path.{_≡_, refl, sym, _∙_}
-use mathlib.Core.Bool.{Bool, true, false, _&&_, _||_, true≢false}
+use mathlib.Core.Bool.{Bool, true, false, cond, _&&_, _||_, true≢false}
 use lib.Dec.{eqb}
 use borrow.Author.Tests.{eqb-true, eqb-false, eq-eqb}
 
@@ -56,6 +56,11 @@ contra a b f n = by-test a (λ y. both (f y) n) (λ m. m)
 -- two tests that imply each other
 pub iff : (a b : Bool) → (a ≡ true → b ≡ true) → (b ≡ true → a ≡ true) → a ≡ b
 iff a b f g = by-test b (λ y. g y ∙ sym y) (λ n. contra a b f n ∙ sym n)
+
+-- what both sides of a choice are below
+pub either : {n : ℕ} (b : Bool) (k m : ℕ) → k < n → m < n → cond b k m < n
+either true k m l h = l
+either false k m l h = h
 
 -- equality of numbers is tested either way round
 pub eqb-sym : (i j : ℕ) → eqb i j ≡ eqb j i

@@ -7,9 +7,9 @@ use mathlib.Core.Path.{_≡_, refl, sym, ap, _∙_, subst}
 use mathlib.Core.Logic.{⊎-elim}
 use mathlib.Core.Bool.{Bool, true, false, not, _&&_, _||_, and-or-distrib-right, or-true, or-false}
 use lib.Dec.{leb, ltb}
-use borrow.Author.Tests.{lt-ltb, le-ltb, le-leb, lt-leb}
-use Rattle.rows.proofs.BoolLaws.{by-test, by-eq, both, and-fails}
-use Rattle.rows.specs.Words.{all, any, first}
+use borrow.Author.Tests.{lt-ltb, le-ltb, le-leb, lt-leb, not-true, not-false}
+use Rattle.rows.proofs.BoolLaws.{by-test, by-eq, both, and-fails, and-both}
+use Rattle.rows.specs.Words.{all, any, first, fails}
 
 module _ (p : ℕ → Bool) where
   -- where p fails at one index, it does not hold at all
@@ -114,18 +114,6 @@ module _ (p q : ℕ → Bool) where
       (λ y. any-at q n k l y ∙ sym (rw y (or-true (any p n))))
       (λ m. any-same n (λ i b. by-eq i k (λ (e : i ≡ k). rw e (m ∙ sym fails)) (others i b)) ∙ sym (rw m (or-false (any p n))))
 
-  -- both hold at all indices where each does
-  pub all-and : (n : ℕ) → all (λ i. p i && q i) n ≡ (all p n && all q n)
-  unfolding all
-  all-and zero = refl
-  all-and (suc n) = rw (all-and n) (cross (all p n) (all q n) (p n) (q n))
-    where
-      cross : (a b c d : Bool) → ((a && b) && (c && d)) ≡ ((a && c) && (b && d))
-      cross false b c d = refl
-      cross true true c d = refl
-      cross true false true d = refl
-      cross true false false d = refl
-
 -- below the first index at which p holds, it fails
 pub first-least : (p : ℕ → Bool) (n i : ℕ) → i < first p n → p i ≡ false
 unfolding first
@@ -137,6 +125,61 @@ first-least p (suc n) i l = by-test (any p n)
     (λ h. by-eq i n
     (λ e. rw e h)
     (λ ne. let m : i < suc n = rw (f, h) at l in none-at p n i f (omega arith))))
+
+-- where p fails, and where it holds
+module _ (p : ℕ → Bool) where
+  pub fails-at : {i : ℕ} → p i ≡ false → fails p i ≡ true
+  unfolding fails
+  fails-at h = ap not h
+
+  pub holds-at : {i : ℕ} → p i ≡ true → fails p i ≡ false
+  unfolding fails
+  holds-at h = ap not h
+
+  -- and back
+  pub at-fails : (i : ℕ) → fails p i ≡ true → p i ≡ false
+  unfolding fails
+  at-fails i h = not-true (p i) h
+
+  pub at-holds : (i : ℕ) → fails p i ≡ false → p i ≡ true
+  unfolding fails
+  at-holds i h = not-false (p i) h
+
+  -- p holds at every index below n just where no search for one at which it fails ends before n
+  pub all-first : (n : ℕ) → all p n ≡ not (ltb (first (fails p) n) n)
+  all-first n = by-test (any (fails p) n)
+      (λ y. let at = first-found (fails p) n y in all-breaks p n (first (fails p) n) (at .0) (at-fails _ (at .1)) ∙ sym (ap not (first-below (fails p) n ∙ y)))
+      (λ m. all-from p n (λ i l. at-holds i (none-at (fails p) n i m l)) ∙ sym (ap not (first-below (fails p) n ∙ m)))
+
+  -- where a search for one ends before n, p fails
+  pub stops-at : (n : ℕ) → first (fails p) n < n → p (first (fails p) n) ≡ false
+  stops-at n l = at-fails _ (first-found (fails p) n (found-if (fails p) n l) .1)
+
+  pub all-passes : (n : ℕ) → all p n ≡ true → n ≡ first (fails p) n
+  all-passes n a = sym (first-none (fails p) n (none-from (fails p) n (λ i l. holds-at (all-at p n i a l))))
+
+-- the first index at which one of two tests fails: where the second fails, looked for before the first index at which the first does
+pub first-fails-both : (p q : ℕ → Bool) (n : ℕ) → first (fails q) (first (fails p) n) ≡ first (fails (λ i. p i && q i)) n
+first-fails-both p q n = by-test (any (fails q) m)
+    (λ y. let at = first-found (fails q) m y in
+    let k = first (fails q) m in
+    sym (first-hit (fails both-hold) n k (omega (arith, at .0, first-most (fails p) n)) (none-below k (omega (arith, at .0)) (λ i l. first-least (fails q) m i l)) (fails-at both-hold (and-fails (p k) (q k) (at-fails q k (at .1))))))
+    (λ none. first-none (fails q) m none ∙ by-test (any (fails p) n)
+    (λ y. let at = first-found (fails p) n y in
+    sym (first-hit (fails both-hold) n m (at .0) (none-below m (omega arith) (λ i l. none-at (fails q) m i none l)) (fails-at both-hold (rw (at-fails p m (at .1))))))
+    (λ z. first-none (fails p) n z ∙ sym (first-none (fails both-hold) n (none-from (fails both-hold) n (λ i l. one-holds i (none-at (fails p) n i z l) (none-at (fails q) m i none (omega (arith, first-none (fails p) n z))))))))
+  where
+    m : ℕ
+    m = first (fails p) n
+
+    both-hold : ℕ → Bool
+    both-hold i = p i && q i
+
+    one-holds : (i : ℕ) → fails p i ≡ false → fails q i ≡ false → fails both-hold i ≡ false
+    one-holds i a b = holds-at both-hold (and-both (at-holds p i a) (at-holds q i b))
+
+    none-below : (k : ℕ) → k ≤ m → ((i : ℕ) → i < k → fails q i ≡ false) → any (fails both-hold) k ≡ false
+    none-below k l h = none-from (fails both-hold) k (λ i b. one-holds i (first-least (fails p) n i (omega arith)) (h i b))
 
 -- the invariants of a search and of a test of every index, and what a turn, a return and the end make of them
 abbrev pub Searching : (ℕ → Bool) → ℕ → ℕ → Type 0

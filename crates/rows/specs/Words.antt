@@ -1,6 +1,6 @@
 -- Words over indices and lists: what holds at all, at some, first; a list by its elements; equal lists.
 use Prim.Native.Nat.{ℕ, zero, suc}
-use mathlib.Core.Bool.{Bool, true, false, cond, _&&_, _||_}
+use mathlib.Core.Bool.{Bool, true, false, cond, not, _&&_, _||_}
 use mathlib.Core.List.{List, [], _∷_, _++_}
 use lib.Dec.{eqb}
 use lib.ListN.{length, getD}
@@ -19,6 +19,10 @@ any p (suc n) = any p n || p n
 unfoldable pub first : (ℕ → Bool) → ℕ → ℕ
 first p zero = zero
 first p (suc n) = cond (any p n) (first p n) (cond (p n) n (suc n))
+
+-- p fails at i
+unfoldable pub fails : (ℕ → Bool) → ℕ → Bool
+fails p i = not (p i)
 
 -- the list of f 0, f 1, .., f (n - 1)
 unfoldable pub build : {A : Type 0} → (ℕ → A) → ℕ → List A

@@ -4,3 +4,5 @@ pub mod PlaceLaws
 pub mod TwoSectors
 pub mod OrderLaws
 pub mod EndLaws
+pub mod FaultLaws
+pub mod FirstFault

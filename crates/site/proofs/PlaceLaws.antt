@@ -1,15 +1,18 @@
 -- An address inside a partition, as facts.
-use Prim.Native.Nat.{_+_, _*_, _≤_, _<_}
+use Prim.Native.Nat.{ℕ, _+_, _*_, _≤_, _<_}
 use native.Mathlib.Omega.{arith}
 use mathlib.Core.Path.{_≡_}
 use mathlib.Core.Bool.{true, _&&_}
+use mathlib.Core.List.{List}
 use lib.Dec.{leb, ltb}
 use borrow.Author.Tests.{ltb-true, leb-true}
-use Rattle.rows.proofs.BoolLaws.{and-left, and-right}
+use Rattle.rows.proofs.BoolLaws.{by-test, and-left, and-right}
 use Rattle.terms.specs.declared.Address.{Address}
 use Rattle.site.specs.declared.PartitionRow.{PartitionRow}
+use Rattle.site.specs.Layout.{partitions, partitionRow}
 use Rattle.site.specs.Rules.{tracks, sectors, ranged}
-use Rattle.site.specs.Places.{inside}
+use Rattle.site.specs.Found.{indexOfNumber}
+use Rattle.site.specs.Places.{inside, refused, placedOn, placedIn}
 use Rattle.site.proofs.RuleLaws.{ranged-is}
 
 pub record Inside (r : PartitionRow) (a : Address) : Type 0 where
@@ -28,6 +31,13 @@ inside-is r a h =
       least = leb-true _ _ (and-left l m h₁);
       most = leb-true _ _ (and-right l m h₁);
     }
+
+-- an address in a good file is refused with 8 or 9, if at all
+pub placed-low : (f : List ℕ) (a : Address) → placedIn f a .refusal < 10
+unfolding placedIn placedOn refused
+placed-low f a = by-test (ltb (indexOfNumber f (a .volume) (a .partition)) (partitions f))
+    (λ y. by-test (inside (partitionRow f (indexOfNumber f (a .volume) (a .partition))) a) (λ i. rw (y, i) (omega arith)) (λ o. rw (y, o) (omega arith)))
+    (λ m. rw m (omega arith))
 
 -- its sector lies in the partition
 pub inside-ends : (r : PartitionRow) (a : Address) → Inside r a → a .track .0 * 128 + a .sector .0 ≤ sectors (r .size)

@@ -1,13 +1,13 @@
 -- The rules of a site file as facts.
 use Prim.Native.Nat.{ℕ, _+_, _≤_, _<_}
-use mathlib.Core.Path.{_≡_, ap, _∙_}
+use mathlib.Core.Path.{_≡_}
 use mathlib.Core.Bool.{true, _&&_}
 use mathlib.Core.List.{List}
 use lib.Dec.{eqb, leb}
 use lib.ListN.{length}
 use borrow.Author.Tests.{eqb-true, leb-true}
 use Rattle.rows.proofs.BoolLaws.{and-left, and-right}
-use Rattle.rows.proofs.IndexLaws.{all-at, all-and}
+use Rattle.rows.proofs.IndexLaws.{all-at}
 use Rattle.rows.specs.Words.{all, zeros}
 use Rattle.site.specs.declared.PartitionRow.{PartitionRow}
 use Rattle.site.specs.Layout.{users, userOffset, partitions, partitionOffset, usersFrom, partitionsFrom, wholeLength, partitionRow, partitionSpare}
@@ -91,20 +91,14 @@ kept f i h =
       apart = and-right v o h₂;
     }
 
--- the rules of the partition rows, one after the other
-pub partitions-split : (f : List ℕ) (n : ℕ) → all (goodPartition f) n ≡ (all (sound f) n && (all (nameAlone f (partitionsFrom f) 24) n && (all (numberAlone f) n && all (apart f) n)))
-unfolding goodPartition
-partitions-split f n =
-    let names = nameAlone f (partitionsFrom f) 24 in
-    all-and (sound f) (λ i. names i && (numberAlone f i && apart f i)) n
-    ∙ ap (λ b. all (sound f) n && b) (all-and names (λ i. numberAlone f i && apart f i) n)
-    ∙ ap (λ b. all (sound f) n && (all names n && b)) (all-and (numberAlone f) (apart f) n)
-
 -- a good site file, part by part
 module _ (f : List ℕ) (good : goodSite f ≡ true) where
-  pub site-header : Headed f
+  pub site-headed : goodHeader f ≡ true
   unfolding goodSite
-  site-header = header-is f (and-left (goodHeader f) (all (goodUser f) (users f) && all (goodPartition f) (partitions f)) good)
+  site-headed = and-left (goodHeader f) (all (goodUser f) (users f) && all (goodPartition f) (partitions f)) good
+
+  pub site-header : Headed f
+  site-header = header-is f site-headed
 
   rest : (all (goodUser f) (users f) && all (goodPartition f) (partitions f)) ≡ true
   unfolding goodSite
@@ -113,5 +107,8 @@ module _ (f : List ℕ) (good : goodSite f ≡ true) where
   pub site-user : (i : ℕ) → i < users f → nameAlone f usersFrom 16 i ≡ true
   site-user i l = all-at (goodUser f) (users f) i (and-left (all (goodUser f) (users f)) (all (goodPartition f) (partitions f)) rest) l
 
+  pub site-row : (i : ℕ) → i < partitions f → goodPartition f i ≡ true
+  site-row i l = all-at (goodPartition f) (partitions f) i (and-right (all (goodUser f) (users f)) (all (goodPartition f) (partitions f)) rest) l
+
   pub site-partition : (i : ℕ) → i < partitions f → Kept f i
-  site-partition i l = kept f i (all-at (goodPartition f) (partitions f) i (and-right (all (goodUser f) (users f)) (all (goodPartition f) (partitions f)) rest) l)
+  site-partition i l = kept f i (site-row i l)

@@ -2,7 +2,7 @@
 use Prim.Native.Nat.{ℕ, _+_, _-_, _*_, _<_}
 use native.Mathlib.Omega.{arith}
 use mathlib.Core.Path.{_≡_, sym, ap, _∙_, subst}
-use mathlib.Core.Bool.{true}
+use mathlib.Core.Bool.{true, cond}
 use mathlib.Core.List.{List}
 use lib.Dec.{eqb, ltb}
 use borrow.Author.Tests.{eqb-true, ltb-true, ltb-false, lt-ltb, eq-eqb, not-true}
@@ -13,8 +13,11 @@ use Rattle.terms.specs.declared.Address.{Address}
 use Rattle.terms.specs.declared.Place.{Place}
 use Rattle.site.specs.declared.PartitionRow.{PartitionRow}
 use Rattle.site.specs.declared.Placed.{Placed}
+use Rattle.site.specs.declared.Located.{Located}
+use Rattle.site.specs.declared.Located.the-variants.{At, Faulty}
 use Rattle.site.specs.Layout.{partitions, partitionRow}
 use Rattle.site.specs.Rules.{sectors, numbered, partitionNumbered, meet, overlap, partitionsOverlap, apart, goodSite}
+use Rattle.site.specs.Faults.{firstFault}
 use Rattle.site.specs.Found.{indexOfNumber}
 use Rattle.site.specs.Places.{inside, placeOn, placedOn, refused, placedIn, placedBy}
 use Rattle.site.proofs.RuleLaws.{site-partition}
@@ -130,17 +133,23 @@ two-addresses-two-sectors f good a b za zb e =
     (subst (λ (i : ℕ). placeOn (partitionRow f (v .row)) a ≡ placeOn (partitionRow f i) b) one here)
 
 -- the same over the contract of `place`, for any file: two calls that are not refused and give one place were asked for one address
-pub one-place-one-address : (f : List ℕ) (a b : Address) (r s : Placed) → Gives (placedBy f a) r → Gives (placedBy f b) s
-    → r .refusal ≡ 0 → s .refusal ≡ 0 → r .place ≡ s .place → a ≡ b
-unfolding placedBy refused
-one-place-one-address f a b r s p q zr zs e = by-test (goodSite f)
-    (λ y.
-    let pr : r ≡ placedIn f a = p .answer ∙ rw y in
-    let qs : s ≡ placedIn f b = q .answer ∙ rw y in
-    two-addresses-two-sectors f y a b
-    (sym (ap (λ (x : Placed). x .refusal) pr) ∙ zr)
-    (sym (ap (λ (x : Placed). x .refusal) qs) ∙ zs)
-    (sym (ap (λ (x : Placed). x .place) pr) ∙ e ∙ ap (λ (x : Placed). x .place) qs))
-    (λ n.
-    let bad : r ≡ refused 10 = p .answer ∙ rw n in
-    let lie : _≡_ {A = ℕ} 10 0 = sym (ap (λ (x : Placed). x .refusal) bad) ∙ zr in absurd (omega arith))
+pub one-place-one-address : (f : List ℕ) (a b : Address) (r s : Located) → Gives (placedBy f a) r → Gives (placedBy f b) s
+    → (p q : Placed) → r ≡ At p → s ≡ At q → p .refusal ≡ 0 → q .refusal ≡ 0 → p .place ≡ q .place → a ≡ b
+one-place-one-address f a b r s given given′ p q rp sq zp zq e =
+    let pa = located a p (sym (given .answer) ∙ rp) in
+    let qb = located b q (sym (given′ .answer) ∙ sq) in
+    two-addresses-two-sectors f (pa .0) a b
+    (sym (ap (λ (x : Placed). x .refusal) (pa .1)) ∙ zp)
+    (sym (ap (λ (x : Placed). x .refusal) (qb .1)) ∙ zq)
+    (sym (ap (λ (x : Placed). x .place) (pa .1)) ∙ e ∙ ap (λ (x : Placed). x .place) (qb .1))
+  where
+    at-one : (x y : Placed) → At x ≡ At y → y ≡ x
+    at-one x y h = cc
+
+    not-at : (x : Placed) → Faulty (firstFault f) ≡ At x → ⊥
+    not-at x h = let z : _≡_ {A = ℕ} 0 1 = cc in omega arith
+
+    located : (a : Address) (x : Placed) → placedBy f a ≡ At x → (goodSite f ≡ true) × (x ≡ placedIn f a)
+    located a x h =
+        let is : cond (goodSite f) (At (placedIn f a)) (Faulty (firstFault f)) ≡ At x = unfold placedBy in h in
+        by-test (goodSite f) (λ y. (y, at-one _ x (rw y at is))) (λ n. absurd (not-at x (rw n at is)))

@@ -7,8 +7,11 @@ use Rattle.terms.specs.declared.Address.{Address}
 use Rattle.terms.specs.declared.Place.{Place}
 use Rattle.site.specs.declared.PartitionRow.{PartitionRow}
 use Rattle.site.specs.declared.Placed.{Placed}
+use Rattle.site.specs.declared.Located.{Located}
+use Rattle.site.specs.declared.Located.the-variants.{At, Faulty}
 use Rattle.site.specs.Layout.{partitions, partitionRow}
 use Rattle.site.specs.Rules.{tracks, goodSite}
+use Rattle.site.specs.Faults.{firstFault}
 use Rattle.site.specs.Found.{indexOfNumber}
 
 -- the track is below the row's tracks and the sector is 1 to 128
@@ -33,6 +36,6 @@ placedIn f a =
     (placedOn (partitionRow f (indexOfNumber f (a .volume) (a .partition))) a)
     (refused 8)
 
--- 10 the site file, then as above
-unfoldable pub placedBy : List ℕ → Address → Placed
-placedBy f a = cond (goodSite f) (placedIn f a) (refused 10)
+-- 10 the site file, with its first fault; then as above
+unfoldable pub placedBy : List ℕ → Address → Located
+placedBy f a = cond (goodSite f) (At (placedIn f a)) (Faulty (firstFault f))

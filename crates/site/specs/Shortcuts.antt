@@ -1,15 +1,21 @@
--- What the checks keep of the rows that went by, so as to compare a row with them only where it must be. No rule names these words.
+-- What the checks keep of the rows that went by, so as to compare a row with them only where it must be, and the words of the check's
+-- inner contracts. No rule names these words.
 use Prim.Native.Nat.{ℕ, _+_, _*_, _%_, _<_, max}
-use mathlib.Core.Bool.{Bool}
+use mathlib.Core.Bool.{Bool, cond}
 use mathlib.Core.List.{List}
-use lib.Dec.{leb}
+use lib.Dec.{leb, ltb}
 use lib.ListN.{getD, set}
 use Rattle.rows.specs.Marks.{hash}
 use Rattle.rows.specs.Numbers.{lowFirst}
 use Rattle.rows.specs.Rows.{part}
+use Rattle.rows.specs.Words.{first, fails}
 use Rattle.site.specs.declared.PartitionRow.{PartitionRow}
-use Rattle.site.specs.Layout.{partitionRow}
-use Rattle.site.specs.Rules.{sectors}
+use Rattle.site.specs.declared.Fault.the-variants.{InPartition}
+use Rattle.site.specs.declared.Checked.{Checked}
+use Rattle.site.specs.declared.Checked.the-variants.{Good, Faulty}
+use Rattle.site.specs.Layout.{partitions, partitionsFrom, partitionRow}
+use Rattle.site.specs.Faults.{breachAt, firstPartition}
+use Rattle.site.specs.Rules.{sectors, sound, nameAlone, numberAlone, apart}
 
 -- the hash of a name; of volume and number of partition row i
 unfoldable pub nameHash : List ℕ → ℕ
@@ -32,3 +38,23 @@ passing ends r = set ends (r .volume .0) (max (getD ends (r .volume .0) 0) (endO
 -- each entry of an order is one of n rows
 abbrev pub Below : ℕ → List ℕ → Type 0
 Below n order = (k : ℕ) → 0 < n → getD order k 0 < n
+
+-- the partition rows that are left after each rule: those before the first that breaks it or a rule before it
+unfoldable pub leftByRange : List ℕ → ℕ
+leftByRange f = first (fails (sound f)) (partitions f)
+
+unfoldable pub leftByName : List ℕ → ℕ
+leftByName f = first (fails (nameAlone f (partitionsFrom f) 24)) (leftByRange f)
+
+unfoldable pub leftByNumber : List ℕ → ℕ
+leftByNumber f = first (fails (numberAlone f)) (leftByName f)
+
+unfoldable pub leftByOverlap : List ℕ → ℕ
+leftByOverlap f = first (fails (apart f)) (leftByNumber f)
+
+-- the partition rows by themselves: all good, or the first that is not
+unfoldable pub checkedPartitions : List ℕ → Checked
+checkedPartitions f =
+    cond (ltb (firstPartition f) (partitions f))
+    (Faulty (InPartition (firstPartition f) (breachAt f (firstPartition f))))
+    Good

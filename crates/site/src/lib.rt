@@ -1,5 +1,5 @@
 // The site file: its check, what is looked up in it, and the place of an address. The file is lent and never copied.
-// `is_good` and `place` take any bytes. The others are inner halves: they rely on a file that `is_good` has passed.
+// `check`, `is_good` and `place` take any bytes. The others are inner halves: they rely on what `check` gave for the file.
 mod hashes;
 mod layout;
 mod order;
@@ -18,9 +18,14 @@ ghost use Prim.Native.Nat.{_<_};
 ghost use Rattle.rows.specs.Words.{same};
 ghost use Rattle.rows.specs.Outcomes.{Gives};
 ghost use Rattle.site.specs.Layout.{partitions, partitionRow, partitionPassword};
+ghost use Rattle.site.specs.declared.Checked.the-variants.{Faulty};
 ghost use Rattle.site.specs.Rules.{goodSite, ranged};
+ghost use Rattle.site.specs.Faults.{checked, earlierRow};
 ghost use Rattle.site.specs.Found.{hasUser, indexOfName, indexOfNumber};
 ghost use Rattle.site.specs.Places.{refused as refusedBy, placedOn, placedIn, placedBy};
+
+// Room to read a file into: one byte more than the longest good one has, so that a longer one is seen to be too long.
+pub const ROOM: usize = 3593;
 
 // A partition row without its name and password.
 pub struct PartitionRow {
@@ -31,24 +36,78 @@ pub struct PartitionRow {
     pub first: u32,
 }
 
+// What is wrong with a row: a range, a repeated name, a repeated volume and number, an overlap.
+pub enum Breach {
+    Range,
+    Name,
+    Number,
+    Overlap,
+}
+
+// A fault of a file: in its header, in a user row or in a partition row, by the row's index.
+pub enum Fault {
+    InHeader,
+    InUser(u8),
+    InPartition(u8, Breach),
+}
+
+// What the check of a file gives: it is good, or its first fault.
+pub enum Checked {
+    Good,
+    Faulty(Fault),
+}
+
 // A refusal and no place, or 0 and the place.
 pub struct Placed {
     pub refusal: u8,
     pub place: Place,
 }
 
-// The site file keeps every rule; refusal 10 where it does not.
+// What the place of an address is answered in any file: the file's first fault, or the place and its refusals.
+pub enum Located {
+    Faulty(Fault),
+    At(Placed),
+}
+
+// The site file keeps every rule, or its first fault; refusal 10 where it has one.
+pub fn check(file: &[u8]) -> Checked
+    ensures { λ r. ⌜ Gives (checked (now (file .entry))) r ⌝ }
+{
+    if !rules::header_good(file) {
+        return Checked::Faulty(Fault::InHeader);
+    }
+    let n = layout::users(file);
+    let i = rules::first_name_repeated(file, layout::USERS_FROM, layout::USER, n);
+    if i < n {
+        return Checked::Faulty(Fault::InUser(i as u8));
+    }
+    rules::check_partitions(file)
+}
+
+// The site file keeps every rule.
 pub fn is_good(file: &[u8]) -> bool
     ensures { λ r. ⌜ Gives (goodSite (now (file .entry))) r ⌝ }
 {
-    if !rules::header_good(file) {
-        return false;
+    let checked = check(file);
+    match checked {
+        Checked::Good => true,
+        Checked::Faulty(_) => false,
     }
-    let n = layout::users(file);
-    if !rules::names_alone(file, layout::USERS_FROM, layout::USER, n) {
-        return false;
+}
+
+// The earlier row of a clashing pair, where `check` has named the later one: the first row that clashes with it. The row
+// named where the fault is no clash.
+pub fn earlier_row(file: &[u8], fault: Fault) -> usize
+    requires { ⌜ checked (now file) ≡ Faulty fault ⌝ }
+    ensures { λ r. ⌜ Gives (earlierRow (now (file .entry)) fault) r ⌝ }
+{
+    match fault {
+        Fault::InHeader => 0,
+        Fault::InUser(row) => {
+            search::earlier_name(file, layout::USERS_FROM, layout::USER, row as usize)
+        }
+        Fault::InPartition(row, breach) => search::earlier_clash(file, row as usize, breach),
     }
-    rules::partitions_good(file)
 }
 
 // A user row has this name and this password.
@@ -160,12 +219,13 @@ pub fn place_in(file: &[u8], address: Address) -> Placed
     refused(8)
 }
 
-// 10, 8, 9 or the place of an address, in any file.
-pub fn place(file: &[u8], address: Address) -> Placed
+// The first fault of the file, 10; or 8, 9 or the place of an address.
+pub fn place(file: &[u8], address: Address) -> Located
     ensures { λ r. ⌜ Gives (placedBy (now (file .entry)) address) r ⌝ }
 {
-    if !is_good(file) {
-        return refused(10);
+    let checked = check(file);
+    match checked {
+        Checked::Good => Located::At(place_in(file, address)),
+        Checked::Faulty(fault) => Located::Faulty(fault),
     }
-    place_in(file, address)
 }

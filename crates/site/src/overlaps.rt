@@ -9,10 +9,13 @@ ghost use mathlib.Core.Path.{_≡_};
 ghost use mathlib.Core.Bool.{true};
 ghost use Prim.Native.Nat.{ℕ, _+_, _*_, _≤_, _<_, max};
 ghost use lib.ListN.{length};
-ghost use Rattle.rows.specs.Words.{all};
+ghost use Rattle.rows.specs.Words.{all, first, fails};
 ghost use Rattle.site.specs.Layout.{partitionsFrom, partitionRow};
 ghost use Rattle.site.specs.Rules.{ranged, apart};
 ghost use Rattle.site.specs.Shortcuts.{past, passing, Below};
+
+// So few rows are searched in less time than they are laid in order.
+const FEW: usize = 8;
 
 fn later(a: u32, b: u32) -> u32
     ensures { λ r. ⌜ r ≡ max a b ⌝ }
@@ -51,32 +54,37 @@ fn walk(file: &[u8], from: usize, n: usize, order: &[u8]) -> bool
     true
 }
 
-// Each of the n rows is searched for an overlap with the rows before it.
-fn search_all(file: &[u8], from: usize, n: usize) -> bool
+// The first of n rows that overlaps a row before it, or n. Each is searched for.
+fn search_all(file: &[u8], from: usize, n: usize) -> usize
     requires { ⌜ (from ≡ partitionsFrom (now file)) × (from + 24 * n ≤ length (now file)) ⌝ }
     requires { ⌜ ((i : ℕ) → i < n → ranged (partitionRow (now file) i) ≡ true) ⌝ }
-    ensures { λ b. ⌜ b ≡ all (apart (now (file .entry))) n ⌝ }
+    ensures { λ r. ⌜ r ≡ first (fails (apart (now (file .entry)))) n ⌝ }
 {
     let mut i: usize = 0;
     while i < n {
-        if search::find_overlap(file, from, i) < i {
-            return false;
+        let j = search::find_overlap(file, from, i);
+        if j < i {
+            return i;
         }
         i += 1;
     }
-    true
+    n
 }
 
-// No two of n rows overlap. Where the walk does not show it, the rows are searched.
-pub fn rows_apart(file: &[u8], from: usize, n: usize) -> bool
+// The first of n rows that overlaps a row before it, or n. Where the walk does not show that none does, the rows are
+// searched; a few rows are searched at once.
+pub fn first_overlap(file: &[u8], from: usize, n: usize) -> usize
     requires { ⌜ (from ≡ partitionsFrom (now file)) × (from + 24 * n ≤ length (now file)) × (n ≤ 64) ⌝ }
     requires { ⌜ ((i : ℕ) → i < n → ranged (partitionRow (now file) i) ≡ true) ⌝ }
-    ensures { λ b. ⌜ b ≡ all (apart (now (file .entry))) n ⌝ }
+    ensures { λ r. ⌜ r ≡ first (fails (apart (now (file .entry)))) n ⌝ }
 {
+    if n < FEW {
+        return search_all(file, from, n);
+    }
     let mut rows = [0u8; 64];
     order::lay(file, from, n, &mut rows);
     if walk(file, from, n, &rows) {
-        return true;
+        return n;
     }
     search_all(file, from, n)
 }

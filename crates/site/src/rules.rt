@@ -1,4 +1,7 @@
 // The rules of a site file, header first, then the user rows, then the partition rows.
+use crate::Breach;
+use crate::Checked;
+use crate::Fault;
 use crate::PartitionRow;
 use crate::hashes;
 use crate::layout;
@@ -9,9 +12,12 @@ ghost use mathlib.Core.Path.{_≡_};
 ghost use mathlib.Core.Bool.{true, false};
 ghost use Prim.Native.Nat.{_+_, _*_, _≤_, _<_};
 ghost use lib.ListN.{length};
-ghost use Rattle.rows.specs.Words.{all, zeros};
+ghost use Rattle.rows.specs.Words.{first, fails, zeros};
+ghost use Rattle.site.specs.declared.Fault.the-variants.{InPartition};
+ghost use Rattle.site.specs.declared.Checked.the-variants.{Faulty};
 ghost use Rattle.site.specs.Layout.{users, partitions, partitionsFrom, wholeLength, spareAt};
-ghost use Rattle.site.specs.Rules.{goodHeader, nameAlone, ranged, sound, numberAlone, goodPartition};
+ghost use Rattle.site.specs.Rules.{goodHeader, nameAlone, ranged, sound, numberAlone};
+ghost use Rattle.site.specs.Shortcuts.{leftByRange, leftByName, leftByNumber, leftByOverlap, checkedPartitions};
 
 // Counts, offsets and the length of the file.
 pub fn header_good(file: &[u8]) -> bool
@@ -48,15 +54,14 @@ fn name_alone(file: &[u8], from: usize, w: usize, i: usize, seen: bool) -> bool
     if !seen {
         return true;
     }
-    let name = layout::name_at(file, from, w, i);
-    i <= search::find_name(file, from, w, i, name)
+    i <= search::earlier_name(file, from, w, i)
 }
 
-// No two of n rows of w bytes share a name. The hash of each name is marked, and only a name whose hash was marked before is
-// compared with those before it.
-pub fn names_alone(file: &[u8], from: usize, w: usize, n: usize) -> bool
+// The first of n rows of w bytes that has the name of an earlier one, or n. The hash of each name is marked, and only a name
+// whose hash was marked before is compared with those before it.
+pub fn first_name_repeated(file: &[u8], from: usize, w: usize, n: usize) -> usize
     requires { ⌜ (from + w * n ≤ length (now file)) × (8 ≤ w) ⌝ }
-    ensures { λ r. ⌜ r ≡ all (nameAlone (now (file .entry)) from w) n ⌝ }
+    ensures { λ r. ⌜ r ≡ first (fails (nameAlone (now (file .entry)) from w)) n ⌝ }
 {
     let mut map = [0u32; 32];
     let mut i: usize = 0;
@@ -64,11 +69,11 @@ pub fn names_alone(file: &[u8], from: usize, w: usize, n: usize) -> bool
         let key = layout::name_at(file, from, w, i);
         let seen = rows::marks::mark(&mut map, hashes::name_hash(key));
         if !name_alone(file, from, w, i, seen) {
-            return false;
+            return i;
         }
         i += 1;
     }
-    true
+    n
 }
 
 // The row's numbers are in range.
@@ -118,59 +123,97 @@ fn number_alone(file: &[u8], from: usize, i: usize, seen: bool) -> bool
     if !seen {
         return true;
     }
-    let row = layout::row_of(file, from, i);
-    let volume = row.volume;
-    let partition = row.partition;
-    i <= search::find_number(file, from, i, volume, partition)
+    i <= search::earlier_number(file, from, i)
 }
 
-// No two of n partitions share both volume and number, by marks as above.
-fn numbers_alone(file: &[u8], from: usize, n: usize) -> bool
+// The first of n partitions that has both volume and number of an earlier one, or n, by marks as above.
+fn first_number_repeated(file: &[u8], from: usize, n: usize) -> usize
     requires { ⌜ (from ≡ partitionsFrom (now file)) × (from + 24 * n ≤ length (now file)) ⌝ }
-    ensures { λ b. ⌜ b ≡ all (numberAlone (now (file .entry))) n ⌝ }
+    ensures { λ r. ⌜ r ≡ first (fails (numberAlone (now (file .entry)))) n ⌝ }
 {
     let mut map = [0u32; 8];
     let mut i: usize = 0;
     while i < n {
         let seen = rows::marks::mark(&mut map, hashes::number_hash(file, from, i));
         if !number_alone(file, from, i, seen) {
-            return false;
+            return i;
         }
         i += 1;
     }
-    true
+    n
 }
 
-// Each of n partition rows is sound by itself.
-fn rows_sound(file: &[u8], from: usize, n: usize) -> bool
+// The first of n partition rows that is not sound by itself, or n.
+fn first_unsound(file: &[u8], from: usize, n: usize) -> usize
     requires { ⌜ (from ≡ partitionsFrom (now file)) × (from + 24 * n ≤ length (now file)) ⌝ }
-    ensures { λ b. ⌜ b ≡ all (sound (now (file .entry))) n ⌝ }
+    ensures { λ r. ⌜ r ≡ first (fails (sound (now (file .entry)))) n ⌝ }
 {
     let mut i: usize = 0;
     while i < n {
         if !row_sound(file, from, i) {
-            return false;
+            return i;
         }
         i += 1;
     }
-    true
+    n
 }
 
-// Each partition row keeps the rules, one rule after the other.
-pub fn partitions_good(file: &[u8]) -> bool
+// The partition rows, and how many of them are left after each rule: those before the first that breaks it or a rule
+// before it.
+struct Left {
+    rows: usize,
+    ranged: usize,
+    named: usize,
+    numbered: usize,
+    apart: usize,
+}
+
+// Tests one rule after the other, each on the rows that the rules before it have left.
+fn rows_left(file: &[u8]) -> Left
     requires { ⌜ (length (now file) ≡ wholeLength (now file)) × (partitions (now file) ≤ 64) ⌝ }
-    ensures { λ r. ⌜ r ≡ all (goodPartition (now (file .entry))) (partitions (now (file .entry))) ⌝ }
+    ensures { λ r. ⌜ (r .rows ≡ partitions (now (file .entry))) × (r .ranged ≡ leftByRange (now (file .entry))) × (r .named ≡ leftByName (now (file .entry))) × (r .numbered ≡ leftByNumber (now (file .entry))) × (r .apart ≡ leftByOverlap (now (file .entry))) ⌝ }
 {
-    let n = layout::partitions(file);
+    let rows = layout::partitions(file);
     let from = layout::partitions_from(file);
-    if !rows_sound(file, from, n) {
-        return false;
+    let ranged = first_unsound(file, from, rows);
+    let named = first_name_repeated(file, from, layout::PARTITION, ranged);
+    let numbered = first_number_repeated(file, from, named);
+    let apart = overlaps::first_overlap(file, from, numbered);
+    Left {
+        rows,
+        ranged,
+        named,
+        numbered,
+        apart,
     }
-    if !names_alone(file, from, layout::PARTITION, n) {
-        return false;
+}
+
+// A fault of partition row i.
+fn faulty(i: usize, breach: Breach) -> Checked
+    requires { ⌜ i < 256 ⌝ }
+    ensures { λ r. ⌜ r ≡ Faulty (InPartition i breach) ⌝ }
+{
+    Checked::Faulty(Fault::InPartition(i as u8, breach))
+}
+
+// The first fault of the partition rows: where rows were taken away, the last rule that took some took them from the least
+// row on.
+pub fn check_partitions(file: &[u8]) -> Checked
+    requires { ⌜ (length (now file) ≡ wholeLength (now file)) × (partitions (now file) ≤ 64) ⌝ }
+    ensures { λ r. ⌜ r ≡ checkedPartitions (now (file .entry)) ⌝ }
+{
+    let left = rows_left(file);
+    if left.rows <= left.apart {
+        return Checked::Good;
     }
-    if !numbers_alone(file, from, n) {
-        return false;
+    if left.apart < left.numbered {
+        return faulty(left.apart, Breach::Overlap);
     }
-    overlaps::rows_apart(file, from, n)
+    if left.numbered < left.named {
+        return faulty(left.numbered, Breach::Number);
+    }
+    if left.named < left.ranged {
+        return faulty(left.named, Breach::Name);
+    }
+    faulty(left.ranged, Breach::Range)
 }

@@ -1,4 +1,5 @@
-// Searches over the rows of a site file, each a loop that ends at the first row that fits.
+// Searches over the rows of a site file. Each ends at the first row that fits.
+use crate::Breach;
 use crate::PartitionRow;
 use crate::layout;
 use crate::sizes;
@@ -9,7 +10,10 @@ ghost use mathlib.Core.Bool.{true};
 ghost use Prim.Native.Nat.{ℕ, _+_, _*_, _≤_, _<_};
 ghost use lib.ListN.{length};
 ghost use Rattle.rows.specs.Words.{first};
-ghost use Rattle.site.specs.Layout.{partitionsFrom, partitionRow};
+ghost use Rattle.site.specs.declared.Breach.the-variants.{Overlap};
+ghost use Rattle.site.specs.declared.Fault.the-variants.{InPartition};
+ghost use Rattle.site.specs.Layout.{partitions, partitionsFrom, wholeLength, nameAt, partitionRow};
+ghost use Rattle.site.specs.Faults.{earlierRow};
 ghost use Rattle.site.specs.Rules.{sameName, namedAt, ranged, meet, partitionNumbered, partitionsOverlap};
 
 // Two names are equal. As numbers they are compared at once.
@@ -33,6 +37,14 @@ pub fn find_name(file: &[u8], from: usize, w: usize, n: usize, name: &[u8]) -> u
         i += 1;
     }
     n
+}
+
+// The first row before row i with its name, or i.
+pub fn earlier_name(file: &[u8], from: usize, w: usize, i: usize) -> usize
+    requires { ⌜ (from + w * i + w ≤ length (now file)) × (8 ≤ w) ⌝ }
+    ensures { λ r. ⌜ r ≡ first (namedAt (now (file .entry)) from w (nameAt (now (file .entry)) from w i)) i ⌝ }
+{
+    find_name(file, from, w, i, layout::name_at(file, from, w, i))
 }
 
 // Partition row i has this volume and number. The partition rows begin at `from`, here and below.
@@ -66,6 +78,17 @@ pub fn find_number(
         i += 1;
     }
     n
+}
+
+// The first row before partition row i with its volume and number, or i.
+pub fn earlier_number(file: &[u8], from: usize, i: usize) -> usize
+    requires { ⌜ (from ≡ partitionsFrom (now file)) × (from + 24 * i + 24 ≤ length (now file)) ⌝ }
+    ensures { λ r. ⌜ r ≡ first (partitionNumbered (now (file .entry)) (partitionRow (now (file .entry)) i .volume) (partitionRow (now (file .entry)) i .partition)) i ⌝ }
+{
+    let row = layout::row_of(file, from, i);
+    let volume = row.volume;
+    let partition = row.partition;
+    find_number(file, from, i, volume, partition)
 }
 
 // Each row begins before the other ends.
@@ -107,4 +130,19 @@ pub fn find_overlap(file: &[u8], from: usize, i: usize) -> usize
         j += 1;
     }
     i
+}
+
+// The first row before partition row i that clashes with it in this way, or i.
+pub fn earlier_clash(file: &[u8], i: usize, breach: Breach) -> usize
+    requires { ⌜ (length (now file) ≡ wholeLength (now file)) × (i < partitions (now file)) ⌝ }
+    requires { ⌜ (breach ≡ Overlap → (j : ℕ) → j ≤ i → ranged (partitionRow (now file) j) ≡ true) ⌝ }
+    ensures { λ r. ⌜ r ≡ earlierRow (now (file .entry)) (InPartition i breach) ⌝ }
+{
+    let from = layout::partitions_from(file);
+    match breach {
+        Breach::Range => i,
+        Breach::Name => earlier_name(file, from, layout::PARTITION, i),
+        Breach::Number => earlier_number(file, from, i),
+        Breach::Overlap => find_overlap(file, from, i),
+    }
 }

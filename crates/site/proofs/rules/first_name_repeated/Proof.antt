@@ -4,7 +4,8 @@ use Rattle.site.specs.Rules.{nameAlone}
 use Rattle.site.specs.Shortcuts.{nameHash}
 use Rattle.rows.proofs.RowLaws.{row-end}
 use lib.ListN.{length}
-use Rattle.rows.proofs.IndexLaws.{Passing, pass-starts, pass-on, pass-breaks, pass-ends}
+use Rattle.rows.proofs.IndexLaws.{Searching, search-starts, search-on, search-hit, search-ends, fails-at, holds-at}
+use Rattle.rows.specs.Words.{fails}
 use Rattle.rows.proofs.MarkLaws.{Marked, mark-starts, mark-adds}
 use Rattle.rows.specs.Marks.{marked}
 use borrow.Author.Tests.{not-true, not-false}
@@ -12,17 +13,17 @@ use denote.Ref.{now}
 use mathlib.Core.Path.{refl, sym, ap, _∙_}
 use native.Mathlib.Omega.{arith}
 use Prim.Native.Nat.{_-_}
-use Rattle.site.proofs.rules.names_alone.Statement.{statement}
-use Rattle.site.proofs.rules.names_alone.Tie as tie
+use Rattle.site.proofs.rules.first_name_repeated.Statement.{statement}
+use Rattle.site.proofs.rules.first_name_repeated.Tie as tie
 
 abbrev Inv-loop : tie.InvT-loop
-Inv-loop file from w n map₀ i₀ map i = Passing (nameAlone file from w) n i × Marked 32 (λ j. nameHash (nameAt file from w j)) map i
+Inv-loop file from w n map₀ i₀ map i = Searching (fails (nameAlone file from w)) n i × Marked 32 (λ j. nameHash (nameAt file from w j)) map i
 
 abbrev μ-loop : tie.MeasureT-loop
 μ-loop file from w n map₀ i₀ map i = n - i
 
 loop-holds : tie.Need-loop-holds Inv-loop μ-loop
-loop-holds c = (pass-starts _ _, mark-starts _ _ _ refl)
+loop-holds c = (search-starts _ _, mark-starts _ _ _ refl)
 
 name-at-requires : tie.Need-name-at-requires Inv-loop μ-loop
 name-at-requires c κs =
@@ -52,7 +53,9 @@ name-alone-requires c κs =
     ((omega (arith, row-end (a .w) (test .loop-test .taken)), omega arith), λ new. unseen-alone 32 (now (a .file)) (a .from) (a .w) map (turn .loop .i) (turn .loop .inv .1) (ap (marked map) (sym here) ∙ sym (marks .mark .ensures .0) ∙ new))
 
 returns : tie.Need-returns Inv-loop μ-loop
-returns c = pass-breaks _ _ (c .before .before .before .before .before .before .before .loop-test .taken) (sym (c .before .name-alone .ensures) ∙ not-true _ (c .if1 .taken))
+returns c =
+    let test = c .before .before .before .before .before .before .before in
+    search-hit _ _ (test .before .loop .inv .0) (test .loop-test .taken) (fails-at _ (sym (c .before .name-alone .ensures) ∙ not-true _ (c .if1 .taken)))
 
 loop-again : tie.Need-loop-again Inv-loop μ-loop
 loop-again c =
@@ -60,15 +63,15 @@ loop-again c =
     let hashed = marks .before in
     let test = hashed .before .before .before in
     let turn = test .before in (
-      pass-on _ _ (turn .loop .inv .0) (test .loop-test .taken) (sym (c .before .name-alone .ensures) ∙ not-false _ (c .if1 .left)),
+      search-on _ _ (turn .loop .inv .0) (test .loop-test .taken) (holds-at _ (sym (c .before .name-alone .ensures) ∙ not-false _ (c .if1 .left))),
       mark-adds _ _ _ (turn .loop .inv .1) (hashed .name-hash .ensures .0 ∙ ap nameHash (hashed .before .before .name-at .ensures)) (omega (arith, hashed .name-hash .ensures .1)) (marks .mark .ensures .1),
     )
 
 returns-2 : tie.Need-returns-2 Inv-loop μ-loop
-returns-2 c = pass-ends _ _ (c .before .loop .inv .0) (c .loop-test .left)
+returns-2 c = search-ends _ _ (c .before .loop .inv .0) (c .loop-test .left)
 
-pub names-alone-spec : {M : Type 1} → statement M
-names-alone-spec =
+pub first-name-repeated-spec : {M : Type 1} → statement M
+first-name-repeated-spec =
     tie.close
     (tie.spec
     Inv-loop
