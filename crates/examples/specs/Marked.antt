@@ -7,7 +7,7 @@ use Rattle.rows.specs.Rows.{setRow}
 use Rattle.rows.specs.Numbers.{lowBytes}
 use Rattle.who.specs.Logins.{freshRecords}
 use Rattle.locks.specs.Good.{freshLocks}
-use Rattle.master.specs.Answers.{Told, refuses, answers, status-byte, place-at, login-as, turn-was}
+use Rattle.master.specs.Answers.{Told, refuses, refuses-site, answers, status-byte, place-at, login-as, turn-was}
 use Rattle.examples.specs.Play.{Line, frame, poll, Example}
 
 -- a partition row with a name of one letter and no password, of size 1: volume, partition number, first sector
@@ -74,9 +74,9 @@ marked =
     ∷ reads 0 1 0 1 (refuses 8)
     ∷ reads 0 1 15 128 (refuses 8)
     ∷ [])
-    -- a second row at 4096 is good, at 4095 the file is refused
+    -- a second row at 4096 is good, at 4095 the file is refused: partition row 1 overlaps
     ∷ fresh (two 4096) (reads 1 1 0 1 (answers (place-at 1 4096)) ∷ [])
-    ∷ fresh (two 4095) (reads 1 1 0 1 (refuses 10) ∷ [])
+    ∷ fresh (two 4095) (reads 1 1 0 1 (refuses-site 2 1 4) ∷ [])
     -- lengths 0, 14 and 13
     ∷ fresh empty (locks 0 (string 0 A B) 0x02 ∷ locks 0 (string 14 A B) 0x02 ∷ locks 0 (string 13 A B) 0x00 ∷ [])
     -- 64 rows used: a new string, the sender's own, another's, length 0

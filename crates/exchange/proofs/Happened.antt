@@ -6,7 +6,7 @@ use mathlib.Core.Bool.{Bool, true, false}
 use mathlib.Core.List.{List, [], _∷_}
 use lib.ListN.{getD}
 use Rattle.who.specs.Logins.{loggedIn}
-use Rattle.master.proofs.Outcomes.{no-answer}
+use Rattle.master.proofs.Outcomes.{refused-no-answer}
 use Rattle.master.specs.Answers.{Told, refuses, answers, no-bytes}
 use Rattle.master.specs.Refusals.{ANYBODY}
 use Rattle.station.specs.Asks.{askRefusal, afterLock, afterUnlock, afterClear, Asks, freshState}
@@ -77,7 +77,7 @@ one-out = go (own-logout 1 logout site _ _ refl) logout-told
     in-then = invariant 1 one-cleared .inside
 
     go : {d : Effect (List ℕ)} → Leaving 1 logout site (tables one-has-none .locks) (tables one-has-none .records) d → d .tells ≡ answers no-bytes → loggedIn (d .records) 1 ≡ false
-    go (stayed k) e = absurd (no-answer e)
+    go (stayed a ne) e = absurd (refused-no-answer ne e)
     go left e = logout-out _ _ (run-good one-has-none) 1 in-then 1
 
 -- station 2

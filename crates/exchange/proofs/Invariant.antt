@@ -13,7 +13,7 @@ use Rattle.who.specs.Logins.{loggedIn}
 use Rattle.locks.specs.Table.{rowCount}
 use Rattle.locks.specs.Holding.{has}
 use Rattle.master.specs.Tables.{goodTables}
-use Rattle.master.proofs.Outcomes.{no-answer}
+use Rattle.master.proofs.Outcomes.{refused-no-answer}
 use Rattle.master.specs.Answers.{answers, status-byte, login-as}
 use Rattle.master.specs.Refusals.{ANYBODY}
 use Rattle.master.proofs.Deeds.{deed}
@@ -87,7 +87,7 @@ module _ (k : ℕ) where
   logout-on h st f s e in-now i = goes-on h (frame k f s) st i in-now (go (own-logout k f s _ _ e) in-now)
     where
       go : {d : Effect (List ℕ)} → Leaving k f s (tables h .locks) (tables h .records) d → loggedIn (d .records) k ≡ true → (y : LockString) → has (d .locks) k y ≡ has (tables h .locks) k y
-      go (stayed _) _ y = refl
+      go (stayed _ _) _ y = refl
       go left in-then y = both in-then (logout-out _ _ (run-good h) k (i .inside) k ∙ rw (eq-eqb k k refl))
 
   own-table : (h : Run) (st : List ℕ) → At h st → (b s : List ℕ) → Exchange k (tables h .locks) (tables h .records) (waitOf st) (effect (frame k (sent st b) s) (tables h))
@@ -96,7 +96,7 @@ module _ (k : ℕ) where
 
   -- the reply is lost
   lost : {t w st : List ℕ} {d : Effect (List ℕ)} → Inv k t w st → Exchange k t w (waitOf st) d → Inv k (d .locks) (d .records) st
-  lost i (unserved j) = i
+  lost i (unserved a ne) = i
   lost i (settles b t′ s) = record { inside = i .inside; state-good = i .state-good; agrees = lost-agrees (i .agrees) s }
 
   -- the reply is taken
@@ -105,7 +105,7 @@ module _ (k : ℕ) where
     same-records : w′ ≡ w
 
   answered : {t w v : List ℕ} {d : Effect (List ℕ)} (b : ℕ) → Exchange k t w v d → d .tells ≡ answers (status-byte b) → Served t w v b (d .locks) (d .records)
-  answered b (unserved j) e = absurd (no-answer e)
+  answered b (unserved a ne) e = absurd (refused-no-answer ne e)
   answered b (settles c t′ s) e = let same : c ≡ b = cc in record { settling = subst (Settles k _ t′ _) same s; same-records = refl }
 
   heard : (h : Run) (st : List ℕ) (i : At h st) (b s : List ℕ) (c : ℕ) → answerIn h k (sent st b) s ≡ answers (status-byte c) → Served (tables h .locks) (tables h .records) (waitOf st) c (tables (h then frame k (sent st b) s) .locks) (tables (h then frame k (sent st b) s) .records)

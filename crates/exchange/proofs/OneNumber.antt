@@ -26,7 +26,7 @@ use Rattle.master.proofs.Keeps.{given-free, login-in, logout-out}
 use Rattle.master.proofs.PollKeeps.{TurnDeed}
 use Rattle.master.specs.Effects.{Effect}
 use Rattle.master.specs.Frames.{numberGiven}
-use Rattle.master.proofs.Outcomes.{no-answer}
+use Rattle.master.proofs.Outcomes.{refused-no-answer}
 use Rattle.master.specs.Answers.{answers, login-as}
 
 module _ (t w : List ℕ) (good : goodTables t w ≡ true) where
@@ -61,7 +61,7 @@ module _ (t w : List ℕ) (good : goodTables t w ≡ true) where
 
   pub enters : (n k : ℕ) (f s : List ℕ) (d : Effect (List ℕ)) → Deed n f s t w d → (known : Bool) (serial : ℕ) → d .tells ≡ answers (login-as k known serial) → (k ≡ 0 → ⊥) → Enters k (d .locks) (d .records)
   unfolding loggedInAs
-  enters n k f s _ (refused j ne) y z e nz = absurd (no-answer e)
+  enters n k f s _ (refused a ne) y z e nz = absurd (refused-no-answer ne e)
   enters n k f s _ (quiet a none) y z e nz = absurd (nz (none k y z cc))
   enters n k f s _ (logged-in at given name serial product found n8 s4) y z e nz =
       let free = given-free t w good given in

@@ -18,14 +18,15 @@ use Rattle.who.specs.Logins.{loggedIn, afterLogout}
 use Rattle.who.proofs.WhoLaws.{good-is, logged-below}
 use Rattle.locks.specs.Table.{lockStatus, lockTable, unlockStatus, unlockTable, clearedTable}
 use Rattle.master.specs.Tables.{goodTables}
-use Rattle.master.specs.Answers.{refuses, answers, no-bytes, status-byte}
+use Rattle.master.specs.Answers.{Told, answers, refusalNumber, no-bytes, status-byte}
 use Rattle.master.specs.Refusals.{ANYBODY, unknown, misplaced, srcDiffers, placeRefusal, frameTests, frameRefusal, refusal}
 use Rattle.master.proofs.Deeds.{records-good}
+use Rattle.master.proofs.Outcomes.{told-refuses}
 use Rattle.station.specs.State.{waitOf, askedIn}
 use Rattle.station.specs.Good.{goodState}
 use Rattle.station.specs.Asks.{frameAwaited, sendRefusal, sentOf, bufferAfter}
 use Rattle.exchange.specs.Following.{sideFrame, sent}
-use Rattle.master.specs.Effects.{Effect, telling, unless}
+use Rattle.master.specs.Effects.{Effect, telling}
 use Rattle.master.specs.Frames.{effectOf, requestEffect, frameEffect}
 
 -- what `send` leaves is the frame awaited, or nothing where it is refused
@@ -70,7 +71,7 @@ side-code c y =
 
 -- at the master: refused, or answered with a status and the lock table t₁
 pub data Serving (t w : List ℕ) (status : ℕ) (t₁ : List ℕ) : Effect (List ℕ) → Type 0 where
-  refused : (k : ℕ) → Serving t w status t₁ (telling (refuses k) t w)
+  refused : (a : Told) → (refusalNumber a ≡ 0 → ⊥) → Serving t w status t₁ (telling a t w)
   served : Serving t w status t₁ (telling (answers (status-byte status)) t₁ w)
 
 module _ (n : ℕ) (f s t w : List ℕ) where
@@ -79,13 +80,13 @@ module _ (n : ℕ) (f s t w : List ℕ) where
   Commands status t₁ = requestEffect (requestIn f) n s t w ≡ telling (answers (status-byte status)) t₁ w
 
   pub serving : {status : ℕ} {t₁ : List ℕ} → Commands status t₁ → Serving t w status t₁ (frameEffect n f s t w)
-  unfolding frameEffect unless
+  unfolding frameEffect
   serving c = by-eq (refusal n f s t w) 0
       (λ e. rw (e, c) served)
-      (λ ne. rw (ne-eqb (refusal n f s t w) 0 ne) (refused (refusal n f s t w)))
+      (λ ne. rw (ne-eqb (refusal n f s t w) 0 ne) (refused _ (told-refuses s (refusal n f s t w) ne)))
 
   pub told-status : {status : ℕ} {t₁ : List ℕ} → Commands status t₁ → refusal n f s t w ≡ 0 → frameEffect n f s t w .tells ≡ answers (status-byte status)
-  unfolding frameEffect unless
+  unfolding frameEffect
   told-status c z = rw (z, c)
 
   pub own-lock : code f ≡ LOCK → Commands (lockStatus t n (askedIn f)) (lockTable t n (askedIn f))
@@ -102,14 +103,14 @@ module _ (n : ℕ) (f s t w : List ℕ) where
 
   -- a logout is refused, or frees the rows and clears the record
   pub data Leaving : Effect (List ℕ) → Type 0 where
-    stayed : (k : ℕ) → Leaving (telling (refuses k) t w)
+    stayed : (a : Told) → (refusalNumber a ≡ 0 → ⊥) → Leaving (telling a t w)
     left : Leaving (telling (answers no-bytes) (clearedTable t n) (afterLogout w n))
 
   pub own-logout : code f ≡ LOGOUT → Leaving (frameEffect n f s t w)
-  unfolding frameEffect unless requestIn plain requestEffect effectOf
+  unfolding frameEffect requestIn plain requestEffect effectOf
   own-logout e = by-eq (refusal n f s t w) 0
       (λ z. rw (z, e) left)
-      (λ ne. rw (ne-eqb (refusal n f s t w) 0 ne) (stayed _))
+      (λ ne. rw (ne-eqb (refusal n f s t w) 0 ne) (stayed _ (told-refuses s (refusal n f s t w) ne)))
 
   -- of a station that is logged in, a whole frame that holds no address, no login and no logout is not refused in good tables with a good site file
   pub not-refused : goodTables t w ≡ true → goodSite s ≡ true → loggedIn w n ≡ true → (c : ℕ) → code f ≡ c → length f ≡ frameLength c → eqb (frameLength c) 0 ≡ false
@@ -122,7 +123,7 @@ module _ (n : ℕ) (f s t w : List ℕ) where
 
   -- an acknowledge, a read, a write or an assign leaves both tables
   pub side-stays : sideFrame f ≡ true → (frameEffect n f s t w .locks ≡ t) × (frameEffect n f s t w .records ≡ w)
-  unfolding sideFrame frameEffect unless requestIn namedIn plain requestEffect effectOf
+  unfolding sideFrame frameEffect requestIn namedIn plain requestEffect effectOf
   side-stays y = by-eq (refusal n f s t w) 0
       (λ z. rw z (go (side-code (code f) y)))
       (λ ne. rw (ne-eqb (refusal n f s t w) 0 ne) (refl, refl))
@@ -135,12 +136,17 @@ module _ (n : ℕ) (f s t w : List ℕ) where
 
 -- an empty frame is refused
 pub data Refused (t w : List ℕ) : Effect (List ℕ) → Type 0 where
-  refuses-with : (k : ℕ) → Refused t w (telling (refuses k) t w)
+  refuses-with : (a : Told) → (refusalNumber a ≡ 0 → ⊥) → Refused t w (telling a t w)
+
+empty-refusal : (n : ℕ) (s t w : List ℕ) → refusal n [] s t w ≡ 0 → ⊥
+unfolding refusal frameRefusal frameTests refusalOf
+empty-refusal n s t w z = by-test (goodTables t w)
+    (λ g. by-test (goodSite s)
+    (λ h. let lie : _≡_ {A = ℕ} 1 0 = rw (g, h) at z in omega arith)
+    (λ h. let lie : _≡_ {A = ℕ} 10 0 = rw (g, h) at z in omega arith))
+    (λ g. let lie : _≡_ {A = ℕ} 11 0 = rw g at z in omega arith)
 
 pub empty-refused : (n : ℕ) (s t w : List ℕ) → Refused t w (frameEffect n [] s t w)
-unfolding frameEffect unless refusal frameRefusal frameTests refusalOf
-empty-refused n s t w = by-test (goodTables t w)
-    (λ g. by-test (goodSite s)
-    (λ h. rw (g, h) (refuses-with 1))
-    (λ h. rw (g, h) (refuses-with 10)))
-    (λ g. rw g (refuses-with 11))
+unfolding frameEffect
+empty-refused n s t w = let ne = empty-refusal n s t w in
+    rw (ne-eqb (refusal n [] s t w) 0 ne) (refuses-with _ (told-refuses s (refusal n [] s t w) ne))

@@ -17,13 +17,14 @@ use Rattle.site.specs.Layout.{partitionRow}
 use Rattle.site.specs.Found.{indexOfName}
 use Rattle.who.specs.Logins.{freshRecords}
 use Rattle.locks.specs.Good.{freshLocks}
-use Rattle.master.specs.declared.Answer.the-variants.{Refused, Nothing, Status, Assigned, At, LoggedIn}
+use Rattle.site.specs.Faults.{firstFault}
+use Rattle.master.specs.declared.Answer.the-variants.{Refused, Faulty, Nothing, Status, Assigned, At, LoggedIn}
 use Rattle.master.specs.declared.Turned.the-variants.{Turn}
 use Rattle.master.specs.declared.Turned.the-variants as turns
 use Rattle.master.specs.Answers.{Told, told, turnTold}
 use Rattle.master.specs.Refusals.{refusal}
 use Rattle.master.specs.Fresh.{sized, freshEffect}
-use Rattle.master.specs.Frames.{placeTold, nameFound, assignable, rowAnswer, assignAnswer, numberGiven, loginEffect, effectOf, requestEffect, frameEffect}
+use Rattle.master.specs.Frames.{placeTold, nameFound, assignable, rowAnswer, assignAnswer, numberGiven, loginEffect, effectOf, requestEffect, refusalTold, frameEffect}
 use Rattle.master.specs.Polls.{pollRefusal, dueNow, outNow, stationTurn, pollEffect, stationAt}
 use Rattle.exchange.specs.Runs.{frame, turn, Run, start, _then_, effect, tables, Played, fresh, serve, poll-turn}
 use Rattle.master.specs.Effects.{unless}
@@ -64,10 +65,12 @@ command-given Clear q n s t w = record { answer = Status _; tells = refl }
 command-given (Logout src) q n s t w = record { answer = Nothing; tells = refl }
 
 frame-given : (n : ℕ) (f s t w : List ℕ) → Given told (frameEffect n f s t w .tells)
-unfolding frameEffect requestEffect unless told
+unfolding frameEffect requestEffect refusalTold told
 frame-given n f s t w = by-eq (refusal n f s t w) 0
     (λ e. rw e (command-given (requestIn f .command) (requestIn f) n s t w))
-    (λ ne. record { answer = Refused (refusal n f s t w); tells = rw (ne-eqb (refusal n f s t w) 0 ne) })
+    (λ ne. by-eq (refusal n f s t w) 10
+    (λ (e : refusal n f s t w ≡ 10). record { answer = Faulty (firstFault s); tells = rw e })
+    (λ no-site. record { answer = Refused (refusal n f s t w); tells = rw (ne-eqb (refusal n f s t w) 0 ne, ne-eqb (refusal n f s t w) 10 no-site) }))
 
 turn-given : (n : ℕ) (heard : Bool) (t w : List ℕ) → Given turnTold (pollEffect n heard t w .tells)
 unfolding pollEffect unless stationTurn turnTold

@@ -20,7 +20,7 @@ use Rattle.locks.proofs.GoodLaws as tableLaws
 use Rattle.locks.proofs.HoldingLaws.{has-held, has-same, held-legal, LockCase, illegal, own, other, full, granted, lock-case, has-granted, UnlockCase, unlocked, refused, unlock-case, has-unlocked, unlocked-gone, has-cleared}
 use Rattle.master.specs.Tables.{goodTables}
 use Rattle.master.specs.Refusals.{refusal}
-use Rattle.master.specs.Answers.{refuses, answers, status-byte}
+use Rattle.master.specs.Answers.{Told, answers, refusalNumber, status-byte}
 use Rattle.station.specs.State.{waitOf, codeIn, askedIn, nothing}
 use Rattle.station.specs.Good.{goodState}
 use Rattle.station.specs.Asks.{waits, awaited, awaitedClear, frameAwaited}
@@ -136,11 +136,11 @@ clear-settled k t = record {
 
 -- one own exchange: refused and nothing changes, or served and settled
 pub data Exchange (k : ℕ) (t w v : List ℕ) : Effect (List ℕ) → Type 0 where
-  unserved : (j : ℕ) → Exchange k t w v (telling (refuses j) t w)
+  unserved : (a : Told) → (refusalNumber a ≡ 0 → ⊥) → Exchange k t w v (telling a t w)
   settles : (b : ℕ) (t′ : List ℕ) → Settles k t t′ v b → Exchange k t w v (telling (answers (status-byte b)) t′ w)
 
 exchanged : {k : ℕ} {t w v : List ℕ} {b : ℕ} {t₁ : List ℕ} {d : Effect (List ℕ)} → Serving t w b t₁ d → Settles k t t₁ v b → Exchange k t w v d
-exchanged (OwnFrames.Serving.refused j) s = unserved j
+exchanged (OwnFrames.Serving.refused a ne) s = unserved a ne
 exchanged {b = b} {t₁ = t₁} served s = settles b t₁ s
 
 module _ {n : ℕ} (w : List ℕ) {t : List ℕ} (g : tableLaws.Good n (loggedIn w) t) (k : ℕ) (nf : k ≡ 0xFF → ⊥) (s : List ℕ) where
@@ -151,7 +151,7 @@ module _ {n : ℕ} (w : List ℕ) {t : List ℕ} (g : tableLaws.Good n (loggedIn
   none-sent v = go (empty-refused k s t w)
     where
       go : {d : Effect (List ℕ)} → Refused t w d → Exchange k t w v d
-      go (refuses-with j) = unserved j
+      go (refuses-with a ne) = unserved a ne
 
   -- what the frame awaited does where it is served
   record Due (v : List ℕ) : Type 0 where

@@ -2,13 +2,14 @@
 use Prim.Native.Nat.{ℕ, _≤_}
 use native.Mathlib.Omega.{arith}
 use lib.ListN.{length, length-append}
-use Rattle.master.specs.Answers.{Told, refuses, answers, no-bytes, status-byte, assign-bytes, place-at, login-as, turn-was, frame-of, request-of}
+use Rattle.master.specs.Answers.{Told, refuses, refuses-site, answers, refusalNumber, no-bytes, status-byte, assign-bytes, place-at, login-as, turn-was, frame-of, request-of}
 use Rattle.lines.proofs.DigitLaws.{decimal-long}
-use Rattle.lines.specs.Line.{decimal, hexByte, answerText, refusalNumber, column, columns, lineText}
+use Rattle.lines.specs.Line.{decimal, hexByte, answerText, column, columns, lineText}
 
 pub answer-long : (t : Told) → length (answerText t) ≤ 41
 unfolding answerText hexByte
 answer-long (refuses k) = omega arith
+answer-long (refuses-site part row breach) = omega arith
 answer-long (answers no-bytes) = omega arith
 answer-long (answers (status-byte status)) = omega arith
 answer-long (answers (place-at volume sector)) = simp length-append (omega (arith, decimal-long volume, decimal-long sector))

@@ -6,7 +6,7 @@ use lib.Dec.{ltb}
 use lib.ListN.{length}
 use Rattle.rows.specs.Rows.{put}
 use Rattle.rows.specs.Outcomes.{Leaves}
-use Rattle.master.specs.Answers.{Told, refuses, answers, no-bytes, status-byte, assign-bytes, place-at, login-as, turn-was, frame-of, request-of}
+use Rattle.master.specs.Answers.{Told, refuses, refuses-site, answers, refusalNumber, no-bytes, status-byte, assign-bytes, place-at, login-as, turn-was, frame-of, request-of}
 
 -- the characters, by their ASCII codes
 abbrev pub NEWLINE : ℕ
@@ -50,6 +50,7 @@ yesOrNo found = cond found YES NO
 -- status or assign bytes in hex, place as decimal volume:sector, login as number in hex and Y or N, otherwise a dash
 unfoldable pub answerText : Told → List ℕ
 answerText (refuses k) = DASH ∷ []
+answerText (refuses-site part row breach) = DASH ∷ []
 answerText (answers no-bytes) = DASH ∷ []
 answerText (answers (status-byte status)) = hexByte status
 answerText (answers (place-at volume sector)) = decimal volume ++ (COLON ∷ decimal sector)
@@ -58,11 +59,6 @@ answerText (answers (assign-bytes size partition control volume)) = hexByte size
 answerText (answers (turn-was due out)) = DASH ∷ []
 answerText (answers (frame-of length)) = DASH ∷ []
 answerText (answers (request-of code)) = DASH ∷ []
-
--- the refusal, 0 for none
-unfoldable pub refusalNumber : Told → ℕ
-refusalNumber (refuses k) = k
-refusalNumber (answers a) = 0
 
 -- the columns before the answer, each with a space behind it
 unfoldable pub column : List ℕ → List ℕ

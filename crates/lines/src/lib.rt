@@ -7,8 +7,8 @@ ghost use mathlib.Core.Path.{_≡_};
 ghost use mathlib.Core.List.{[], _∷_, _++_};
 ghost use Prim.Native.Nat.{_+_, _≤_, _<_};
 ghost use lib.ListN.{length, drop};
-ghost use Rattle.master.specs.Answers.{told};
-ghost use Rattle.lines.specs.Line.{digit as digitOf, decimal, hexByte, yesOrNo, answerText, refusalNumber, column, columns, lineText, COLON, ROOM, Writes};
+ghost use Rattle.master.specs.Answers.{told, refusalNumber};
+ghost use Rattle.lines.specs.Line.{digit as digitOf, decimal, hexByte, yesOrNo, answerText, column, columns, lineText, COLON, ROOM, Writes};
 
 // The digits of a number: they end with the last byte and begin at `first`.
 struct Digits {
@@ -78,6 +78,7 @@ fn refusal_of(answer: Answer) -> u8
 {
     match answer {
         Answer::Refused(k) => k,
+        Answer::Faulty(_) => 10,
         Answer::Nothing => 0,
         Answer::Status(_) => 0,
         Answer::Assigned { .. } => 0,
@@ -137,6 +138,7 @@ fn write_answer(buffer: &mut [u8], at: usize, answer: Answer) -> usize
 {
     match answer {
         Answer::Refused(_) => write_byte(buffer, at, b'-'),
+        Answer::Faulty(_) => write_byte(buffer, at, b'-'),
         Answer::Nothing => write_byte(buffer, at, b'-'),
         Answer::Status(status) => write_hex(buffer, at, status),
         Answer::Assigned {

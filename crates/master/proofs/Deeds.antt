@@ -26,11 +26,12 @@ use Rattle.who.proofs.WhoLaws.{good-is}
 use Rattle.locks.specs.Good.{goodLocks}
 use Rattle.locks.specs.Table.{lockStatus, lockTable, unlockStatus, unlockTable, clearedTable}
 use Rattle.master.specs.Tables.{goodTables}
-use Rattle.master.specs.Answers.{refuses, answers, Answered, no-bytes, status-byte, login-as, place-at, assign-bytes}
+use Rattle.master.specs.Answers.{Told, refuses, answers, refusalNumber, Answered, no-bytes, status-byte, login-as, place-at, assign-bytes}
 use Rattle.master.specs.Refusals.{ANYBODY, misplaced, placeRefusal, frameTests, frameRefusal, refusal}
 use Rattle.master.specs.Frames.{placeTold, rowAnswer, assignable, assignAnswer, numberGiven, loginEffect, effectOf, requestEffect, frameEffect}
 use Rattle.master.proofs.RefusalLaws.{Passed, passed, tests-stop, seat-in}
-use Rattle.master.specs.Effects.{Effect, telling, unless}
+use Rattle.master.specs.Effects.{Effect, telling}
+use Rattle.master.proofs.Outcomes.{told-refuses}
 
 -- good tables, part by part
 pub records-good : (t w : List ℕ) → goodTables t w ≡ true → goodRecords w ≡ true
@@ -60,7 +61,7 @@ none-given s k found serial e = cc
 module _ (n : ℕ) (f s t w : List ℕ) where
   -- refused: nothing changes. Quiet: an answer and no change, and nobody is logged in. The others change a table
   pub data Deed : Effect (List ℕ) → Type 0 where
-    refused : (k : ℕ) → (k ≡ 0 → ⊥) → Deed (telling (refuses k) t w)
+    refused : (a : Told) → (refusalNumber a ≡ 0 → ⊥) → Deed (telling a t w)
     quiet : (a : Answered) → Numberless a → Deed (telling (answers a) t w)
     logged-in : n ≡ ANYBODY → (numberGiven w ≡ 0 → ⊥) → (name serial : List ℕ) (product : ℕ) (found : Bool) → length name ≡ 8 → length serial ≡ 4
         → Deed (telling (answers (login-as (numberGiven w) found (lowFirst serial))) t (afterLogin w (numberGiven w) (loggedInAs name serial product found)))
@@ -88,10 +89,10 @@ module _ (n : ℕ) (f s t w : List ℕ) where
       past false b x e = absurd (omega arith)
 
   place-done : (p : Placed) → Deed (telling (placeTold p) t w)
-  unfolding placeTold
+  unfolding placeTold refusalNumber
   place-done p = by-eq (p .refusal) 0
       (λ e. rw e (quiet _ (place-told _ _)))
-      (λ ne. rw (ne-eqb (p .refusal) 0 ne) (refused (p .refusal) ne))
+      (λ ne. rw (ne-eqb (p .refusal) 0 ne) (refused (refuses (p .refusal)) ne))
 
   assign-done : (q : Request) → Deed (telling (assignAnswer q s) t w)
   unfolding assignAnswer rowAnswer
@@ -140,7 +141,7 @@ module _ (n : ℕ) (f s t w : List ℕ) where
 
   -- every frame over good tables is one of these
   pub deed : Deed (frameEffect n f s t w)
-  unfolding frameEffect unless
+  unfolding frameEffect
   deed = by-eq (refusal n f s t w) 0
       (λ z. rw z (done (heard z) (code-is (code f) (well-is f (heard z .tests .reads) .known))))
-      (λ ne. rw (ne-eqb (refusal n f s t w) 0 ne) (refused (refusal n f s t w) ne))
+      (λ ne. rw (ne-eqb (refusal n f s t w) 0 ne) (refused _ (told-refuses s (refusal n f s t w) ne)))

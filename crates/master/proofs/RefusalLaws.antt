@@ -7,12 +7,16 @@ use mathlib.Core.List.{List}
 use lib.Dec.{eqb}
 use lib.ListN.{length, getD}
 use borrow.Author.Tests.{eq-eqb, ne-eqb, not-false}
-use Rattle.rows.proofs.BoolLaws.{by-eq, both, or-rest}
+use Rattle.rows.proofs.BoolLaws.{by-test, by-eq, both, or-rest, either}
 use Rattle.frames.specs.Table.{LOGIN, LOGOUT, frameLength, carriesAddress}
-use Rattle.frames.specs.Reading.{code, refusalOf}
+use Rattle.frames.specs.Reading.{code, refusalOf, addressIn}
+use Rattle.site.specs.Rules.{goodSite}
+use Rattle.site.specs.Places.{placedIn}
+use Rattle.site.proofs.PlaceLaws.{placed-low}
 use Rattle.who.specs.Logins.{loggedIn}
 use Rattle.who.proofs.WhoLaws.{logged-below}
-use Rattle.master.specs.Refusals.{ANYBODY, unknown, misplaced, srcDiffers, frameTests}
+use Rattle.master.specs.Tables.{goodTables}
+use Rattle.master.specs.Refusals.{ANYBODY, unknown, misplaced, srcDiffers, placeRefusal, frameTests, frameRefusal, refusal}
 
 -- a row of seven tests and what comes last
 tests : Bool → Bool → Bool → Bool → Bool → Bool → Bool → ℕ → ℕ
@@ -98,6 +102,29 @@ module _ (n : ℕ) (f w : List ℕ) where
   pub tests-stop : (x : ℕ) → (frameTests n f w 0 ≡ 0 → ⊥) → frameTests n f w x ≡ frameTests n f w 0
   unfolding frameTests tests
   tests-stop x z = one-holds (eqb (refusalOf f) 1) (unknown (loggedIn w) n) (eqb (refusalOf f) 3) (eqb (refusalOf f) 4) (misplaced n (code f)) (eqb (refusalOf f) 6) (srcDiffers n f) x z
+
+  -- 10 and 11 are never among them
+  pub tests-low : (x : ℕ) → x < 10 → frameTests n f w x < 10
+  unfolding frameTests
+  tests-low x l =
+      either (eqb (refusalOf f) 1) 1 _ (omega arith)
+      (either (unknown (loggedIn w) n) 2 _ (omega arith)
+      (either (eqb (refusalOf f) 3) 3 _ (omega arith)
+      (either (eqb (refusalOf f) 4) 4 _ (omega arith)
+      (either (misplaced n (code f)) 5 _ (omega arith)
+      (either (eqb (refusalOf f) 6) 6 _ (omega arith)
+      (either (srcDiffers n f) 7 x (omega arith) l))))))
+
+  pub frame-low : (s : List ℕ) → frameRefusal n f s w < 10
+  unfolding frameRefusal placeRefusal
+  frame-low s = tests-low (placeRefusal f s) (either (carriesAddress (code f)) (placedIn s (addressIn f) .refusal) 0 (placed-low s (addressIn f)) (omega arith))
+
+  -- so that 10 is told for a bad site file alone
+  pub ten-is-site : (s t : List ℕ) → refusal n f s t w ≡ 10 → goodSite s ≡ false
+  unfolding refusal
+  ten-is-site s t e = by-test (goodTables t w)
+      (λ g. by-test (goodSite s) (λ y. let lie : frameRefusal n f s w ≡ 10 = rw (g, y) at e in absurd (omega (arith, frame-low s))) (λ m. m))
+      (λ g. let lie : _≡_ {A = ℕ} 11 10 = rw g at e in absurd (omega arith))
 
   -- the number is known, and only a login is served at 253
   module _ (sized : length w ≡ 1152) (p : Passed) where

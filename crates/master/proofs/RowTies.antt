@@ -25,7 +25,7 @@ use Rattle.locks.proofs.GoodLaws.{sound-same}
 use Rattle.master.specs.declared.Step.{Step}
 use Rattle.master.specs.declared.Turned.{Turned}
 use Rattle.master.specs.declared.Turned.the-variants.{Refused, Turn}
-use Rattle.master.specs.Answers.{Told, refuses, answers, turnTold}
+use Rattle.master.specs.Answers.{Told, refuses, refuses-site, answers, turnTold}
 use Rattle.master.specs.Tables.{goodTables}
 use Rattle.master.specs.Refusals.{unknown}
 use Rattle.master.specs.Polls.{stationAt, withCounts, afterTurn, pollRefusal, Polls, turnRefusal, dueNow, outNow, stationTurn, pollEffect}
@@ -38,6 +38,7 @@ use Rattle.master.specs.Inner.{isTurn, writtenBack, readAt, Lends}
 -- what is told says whether there was a turn
 told-turn : Told → Bool
 told-turn (refuses k) = false
+told-turn (refuses-site part row breach) = false
 told-turn (answers l) = true
 
 turn-by-told : (r : Turned) → isTurn r ≡ told-turn (turnTold r)

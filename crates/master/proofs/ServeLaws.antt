@@ -1,5 +1,6 @@
 -- The cases of serving a frame, one law each.
 use Prim.Native.Nat.{ℕ}
+use native.Mathlib.Omega.{arith}
 use mathlib.Core.Path.{_≡_, refl, _∙_}
 use mathlib.Core.Bool.{true, false}
 use mathlib.Core.Logic.{_⊎_, inl, inr, ⊎-elim}
@@ -14,16 +15,18 @@ use Rattle.frames.specs.Requests.{plain}
 use Rattle.frames.specs.Reading.{code, addressIn, requestIn}
 use Rattle.site.specs.Rules.{goodSite}
 use Rattle.site.specs.Places.{placedIn}
+use Rattle.site.specs.Faults.{firstFault}
+use Rattle.site.proofs.PlaceLaws.{placed-low}
 use Rattle.master.specs.declared.Answer.{Answer}
-use Rattle.master.specs.declared.Answer.the-variants.{Refused}
+use Rattle.master.specs.declared.Answer.the-variants.{Refused, Faulty}
 use Rattle.master.specs.Tables.{goodTables}
-use Rattle.master.specs.Answers.{refuses, told}
+use Rattle.master.specs.Answers.{refuses, faultTold, told}
 use Rattle.master.specs.Refusals.{placeRefusal, frameTests, frameRefusal, refusal}
-use Rattle.master.specs.Frames.{placeTold, Serves, effectOf, requestEffect, frameEffect}
+use Rattle.master.specs.Frames.{placeTold, refusalTold, Serves, effectOf, requestEffect, frameEffect}
 use Rattle.master.proofs.RefusalLaws.{passed, tests-pass, tests-stop}
-use Rattle.master.specs.Effects.{telling, unless}
+use Rattle.master.specs.Effects.{telling}
 use Rattle.master.specs.Inner.{Performs}
-use Rattle.master.proofs.EffectLaws.{refusing}
+use Rattle.master.proofs.EffectLaws.{refusing-so}
 
 -- a frame with an address is a read or a write of it
 address-command : (f : List ℕ) → carriesAddress (code f) ≡ true → (requestIn f ≡ plain (Read (getD f 2 0) (addressIn f))) ⊎ (requestIn f ≡ plain (Write (getD f 2 0) (addressIn f)))
@@ -33,10 +36,14 @@ address-command f y = by-eq (code f) READ
     (λ n. inr (rw (eqb-true (code f) WRITE (or-rest (eqb (code f) READ) (eqb (code f) WRITE) y (ne-eqb (code f) READ n)))))
 
 module _ (n : ℕ) (f s t w : List ℕ) where
-  -- a refused frame, by its number
-  pub serves-refused : (k : ℕ) → refusal n f s t w ≡ k → (k ≡ 0 → ⊥) → Serves n f s t w (Refused k) t w
-  unfolding frameEffect told
-  serves-refused k e ne = rw e (refusing k t w _ ne)
+  -- a refused frame, by its number; a bad site file, with its fault
+  pub serves-refused : (k : ℕ) → refusal n f s t w ≡ k → (k ≡ 0 → ⊥) → (k ≡ 10 → ⊥) → Serves n f s t w (Refused k) t w
+  unfolding frameEffect refusalTold told
+  serves-refused k e ne no-site = rw (e, ne-eqb k 10 no-site) (refusing-so k (refuses k) t w _ ne)
+
+  pub serves-faulty : refusal n f s t w ≡ 10 → Serves n f s t w (Faulty (firstFault s)) t w
+  unfolding frameEffect refusalTold told
+  serves-faulty e = rw e (refusing-so 10 (faultTold (firstFault s)) t w (requestEffect (requestIn f) n s t w) (λ z. omega arith))
 
   pub bad-tables : goodTables t w ≡ false → refusal n f s t w ≡ 11
   unfolding refusal
@@ -76,13 +83,13 @@ module _ (n : ℕ) (f s t w : List ℕ) where
             (address-command f y)
 
         same-effect : frameEffect n f s t w ≡ requestEffect (requestIn f) n s t w
-        unfolding frameEffect unless placeRefusal
+        unfolding frameEffect refusalTold placeRefusal
         same-effect = by-test (carriesAddress (code f))
             (λ y. by-eq (placedIn s (addressIn f) .refusal) 0
             (λ e. let none : refusal n f s t w ≡ 0 = last ∙ rw (y, e) in rw none)
             (λ ne.
             let some : refusal n f s t w ≡ placedIn s (addressIn f) .refusal = last ∙ rw y in
-            rw (some, ne-eqb (placedIn s (addressIn f) .refusal) 0 ne) (refused-place y (placedIn s (addressIn f) .refusal) refl ne)))
+            rw (some, ne-eqb (placedIn s (addressIn f) .refusal) 0 ne, ne-eqb (placedIn s (addressIn f) .refusal) 10 (λ e. omega (arith, placed-low s (addressIn f)))) (refused-place y (placedIn s (addressIn f) .refusal) refl ne)))
             (λ no-address. let none : refusal n f s t w ≡ 0 = last ∙ rw no-address in rw none)
 
         pub serves-done : (r : Answer) (t′ w′ : List ℕ) → Performs (requestIn f) n s t w r t′ w′ → Serves n f s t w r t′ w′

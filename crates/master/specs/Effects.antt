@@ -15,9 +15,13 @@ pub record Effect (A : Type 0) : Type 0 where
 abbrev pub telling : {A : Type 0} → Told → List ℕ → A → Effect A
 telling a t w = record { tells = a; locks = t; records = w }
 
--- refused with k, and the tables t and w are as they were; or, with 0 for none, what is done
+-- refused with k, which tells a, and the tables t and w are as they were; or, with 0 for none, what is done
+abbrev pub unlessTold : {A : Type 0} → ℕ → Told → List ℕ → A → Effect A → Effect A
+unlessTold k a t w done = cond (eqb k 0) done (telling a t w)
+
+-- the same where the number is all that is told
 unfoldable pub unless : {A : Type 0} → ℕ → List ℕ → A → Effect A → Effect A
-unless k t w done = cond (eqb k 0) done (telling (refuses k) t w)
+unless k t w done = unlessTold k (refuses k) t w done
 
 -- an entry told this and left these tables, whole
 pub record Does {A : Type 0} (e : Effect A) (told : Told) (t′ : List ℕ) (w′ : A) : Type 0 where

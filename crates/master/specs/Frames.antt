@@ -12,15 +12,16 @@ use Rattle.frames.specs.Reading.{requestIn}
 use Rattle.site.specs.declared.PartitionRow.{PartitionRow}
 use Rattle.site.specs.declared.Placed.{Placed}
 use Rattle.site.specs.Layout.{partitions, partitionRow, partitionPassword}
+use Rattle.site.specs.Faults.{firstFault}
 use Rattle.site.specs.Found.{hasUser, indexOfName}
 use Rattle.site.specs.Places.{placedIn}
 use Rattle.who.specs.Good.{numbers}
 use Rattle.who.specs.Logins.{lowestNumber, loggedInAs, afterLogin, afterLogout}
 use Rattle.locks.specs.Table.{lockStatus, lockTable, unlockStatus, unlockTable, clearedTable}
-use Rattle.master.specs.Answers.{Told, answers, told, no-bytes, status-byte, assign-bytes, place-at, login-as, answersUnless}
+use Rattle.master.specs.Answers.{Told, refuses, answers, faultTold, told, no-bytes, status-byte, assign-bytes, place-at, login-as, answersUnless}
 use Rattle.master.specs.declared.Answer.{Answer}
 use Rattle.master.specs.Refusals.{refusal}
-use Rattle.master.specs.Effects.{Effect, telling, unless, Does}
+use Rattle.master.specs.Effects.{Effect, telling, unlessTold, Does}
 
 -- read, write: the place. Its refusals 8 and 9 stand among the tests of a frame
 unfoldable pub placeTold : Placed → Told
@@ -71,9 +72,13 @@ effectOf (Logout src) q n s t w = telling (answers no-bytes) (clearedTable t n) 
 unfoldable pub requestEffect : Request → ℕ → List ℕ → List ℕ → List ℕ → Effect (List ℕ)
 requestEffect q n s t w = effectOf (q .command) q n s t w
 
+-- what a refusal tells: its number, and 10 the first fault of the site file
+unfoldable pub refusalTold : List ℕ → ℕ → Told
+refusalTold s k = cond (eqb k 10) (faultTold (firstFault s)) (refuses k)
+
 -- one frame f at the number n: refused, and all as it was, or served
 unfoldable pub frameEffect : ℕ → List ℕ → List ℕ → List ℕ → List ℕ → Effect (List ℕ)
-frameEffect n f s t w = unless (refusal n f s t w) t w (requestEffect (requestIn f) n s t w)
+frameEffect n f s t w = unlessTold (refusal n f s t w) (refusalTold s (refusal n f s t w)) t w (requestEffect (requestIn f) n s t w)
 
 -- what serving a frame gives and leaves, whole
 abbrev pub Serves : ℕ → List ℕ → List ℕ → List ℕ → List ℕ → Answer → List ℕ → List ℕ → Type 0

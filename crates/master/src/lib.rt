@@ -4,6 +4,8 @@ mod commands;
 mod poll;
 mod refusals;
 
+use site::Checked;
+use site::Fault;
 use terms::Partition;
 use terms::Place;
 use terms::Volume;
@@ -21,6 +23,7 @@ ghost use Rattle.master.specs.RowPolls.{RowPolls};
 
 pub enum Answer {
     Refused(u8),
+    Faulty(Fault),
     Nothing,
     Status(u8),
     Assigned {
@@ -89,15 +92,16 @@ pub fn act(number: u32, frame: &[u8], site: &[u8], locks: &mut [u8], records: &m
     commands::perform(number as u8, request, site, locks, records)
 }
 
-// One frame at the number polled: 11, 10, 1 to 9, or what the frame does.
+// One frame at the number polled: 11, 10 with the first fault, 1 to 9, or what the frame does.
 pub fn serve(number: u32, frame: &[u8], site: &[u8], locks: &mut [u8], records: &mut [u8]) -> Answer
     ensures { λ r. ⌜ Serves number (now (frame .entry)) (now (site .entry)) (now (locks .entry)) (now (records .entry)) r (now (locks .exit)) (now (records .exit)) ⌝ }
 {
     if !tables_good(locks, records) {
         return Answer::Refused(11);
     }
-    if !site::is_good(site) {
-        return Answer::Refused(10);
+    let checked = site::check(site);
+    if let Checked::Faulty(fault) = checked {
+        return Answer::Faulty(fault);
     }
     act(number, frame, site, locks, records)
 }

@@ -1,6 +1,7 @@
 use mathlib.Core.Path.{_≡_, sym, ap, subst, _∙_}
 use Rattle.master.proofs.ServeLaws.{serves-refused, stops, serves-done}
-use Rattle.master.proofs.RefusalLaws.{passed, number-small, seat-in}
+use Rattle.master.proofs.RefusalLaws.{passed, tests-low, number-small, seat-in}
+use native.Mathlib.Omega.{arith}
 use Rattle.master.specs.Refusals.{frameTests}
 use Rattle.master.specs.Tables.{goodTables}
 use Rattle.who.specs.Logins.{loggedIn}
@@ -28,7 +29,8 @@ use Rattle.master.specs.Inner.{Performs}
 
 returns : tie.Need-returns
 returns c = let z = c .before .first-of .ensures in
-    serves-refused _ _ _ _ _ (c .before .first-of .result) (stops _ _ _ _ _ (c .before .before .before .before .before .before .before .before .pre .0) (c .before .before .before .before .before .before .before .before .pre .1) (λ e. c .if1 .taken (z ∙ e)) ∙ sym z) (c .if1 .taken)
+    let a = c .before .before .before .before .before .before .before .before .args in
+    serves-refused _ _ _ _ _ (c .before .first-of .result) (stops _ _ _ _ _ (c .before .before .before .before .before .before .before .before .pre .0) (c .before .before .before .before .before .before .before .before .pre .1) (λ e. c .if1 .taken (z ∙ e)) ∙ sym z) (c .if1 .taken) (λ e. omega (arith, z, tests-low (a .number) (now (a .frame)) (now (a .records)) 0 (omega arith)))
 
 -- good tables have 64 records
 sized : (t w : List ℕ) → goodTables t w ≡ true → length w ≡ 1152
