@@ -30,20 +30,25 @@
  *   bits 16 to 63   bytes of the answer: the first in bits 16 to 23, the
  *                   second in bits 24 to 31, and so on
  *   Bits above the answer's own bytes are zero. A refused call has zeros
- *   above bit 7. An entry with nothing to tell returns exactly 0.
- *   Look at the refusal first, then at the kind, then at the bytes: a refused
- *   word has zeros for bytes, and a status of zero would mean granted.
+ *   above bit 7, but for refusal 10: beside it stand kind FAULT and the bytes
+ *   of the site file's first fault, which are no answer. An entry with nothing
+ *   to tell returns exactly 0.
+ *   Look at the refusal first, then at the kind, then at the bytes: those of a
+ *   refused word are no answer, and a status of zero would mean granted.
+ *   Compare a refusal number with the refusal, not with the word.
  *
  * Numbers of more than one byte have their low byte first, in answers,
  * frames, tables and the site file alike.
  *
  * Refusals
- *   A refused call returns its refusal number and nothing else. Every lent
- *   byte then holds what it held before. Where several refusals apply, the
- *   first one in the order given with the entry is returned.
+ *   A refused call returns its refusal number and no answer. Beside 10 stands
+ *   the site file's first fault, beside every other nothing. Every lent byte
+ *   then holds what it held before. Where several refusals apply, the first
+ *   one in the order given with the entry is returned.
  *   After 10 the site file is bad: no frame is served with it. The tables are
  *   as good as they were, and poll turns go on. Load a good file, and check
- *   it by hinet_check_site before it takes the place of the old one.
+ *   it by hinet_check_site before it takes the place of the old one. The
+ *   functions hinet_fault_... tell what is wrong in a bad one, and where.
  *   After 11 the tables, or a station's state, were never made fresh, or were
  *   written to by somebody else, or a call on them was cut off, or a length
  *   is wrong. The entries never bring tables that were good to 11, and none
@@ -67,11 +72,12 @@
  *   Bytes that an entry needs on its deepest path, measured by bench/stack
  *   (memcpy and the like not counted):
  *     hinet_poll                                                1680
- *     hinet_frame                                                496
+ *     hinet_frame                                                528
+ *     hinet_place                                                368
  *     hinet_station_frame, _unlock, _reply                       336
- *     hinet_check_tables, hinet_due, hinet_place,
- *     hinet_station_lock                                         304
- *     hinet_check_site, hinet_station_clear                      272
+ *     hinet_check_site                                           320
+ *     hinet_check_tables, hinet_due, hinet_station_lock          304
+ *     hinet_station_clear                                        272
  *     hinet_write_...                                            120
  *     hinet_read_frame                                           112
  *     hinet_fresh                                                 40
@@ -83,11 +89,13 @@
 #include <stddef.h>
 #include <stdint.h>
 
-/* The version of this header and of the archive beside it. */
-#define HINET_VERSION_MAJOR 1
+/* The version of this header and of the archive beside it. The first number
+ * goes up where a program that kept to the header may have to be changed, the
+ * second where something new can be called. */
+#define HINET_VERSION_MAJOR 2
 #define HINET_VERSION_MINOR 0
 #define HINET_VERSION_PATCH 0
-#define HINET_VERSION "1.0.0"
+#define HINET_VERSION "2.0.0"
 
 #ifdef __cplusplus
 extern "C" {
@@ -109,7 +117,8 @@ extern "C" {
 #define HINET_REFUSED_SRC 7         /* src differs from the number polled */
 #define HINET_REFUSED_NO_ROW 8      /* volume and partition name no row */
 #define HINET_REFUSED_OUTSIDE 9     /* track or sector outside the partition */
-#define HINET_REFUSED_SITE 10       /* site file */
+#define HINET_REFUSED_SITE 10       /* site file; its first fault stands beside
+                                       it, as kind FAULT */
 #define HINET_REFUSED_TABLES 11     /* tables or station state of another size
                                        or with a breach */
 #define HINET_REFUSED_NOT_DUE 12    /* heard in a turn that was not due */
@@ -125,6 +134,9 @@ extern "C" {
 #define HINET_KIND_LOGIN 4          /* number, name found (0 or 1), serial (4) */
 #define HINET_KIND_TURN 5           /* due (0 or 1), logged out (0 or 1) */
 #define HINET_KIND_WRITTEN 6        /* length */
+#define HINET_KIND_FAULT 7          /* part, row, breach; no answer: it stands
+                                       beside refusal 10, in the one refused
+                                       word with something above bit 7 */
 #define HINET_KIND_REQUEST 13       /* code */
 
 /* The refusal number of an answer, 0 for none. */
@@ -447,6 +459,18 @@ static inline uint8_t hinet_answer_length(uint64_t answer)
  * sector plus sectors is at most 1048576. No two users share a name. No two
  * partitions share a name, or both volume and number. No two partitions on
  * one volume overlap.
+ *
+ * Faults of a site file. Refusal 10 names the first one by part, row and
+ * breach, in this order:
+ *   The header, then the user rows, then the partition rows, each in file
+ *   order. Rows are counted from 0, and the header has row 0.
+ *   A wrong count, offset or length of the file is the header out of range. So
+ *   is a file too short for a header.
+ *   A user row can only repeat a name.
+ *   Within a partition row: out of range, repeated name, repeated volume and
+ *   number, overlap. Out of range can be the volume, the partition number, the
+ *   size code, the end of the sectors, and the two zeros.
+ *   Of two rows that clash the later one is named.
  */
 
 #define HINET_LOCK_ROWS 64
@@ -478,6 +502,17 @@ static inline uint8_t hinet_answer_length(uint64_t answer)
 
 /* Size code in the answer to an assign that was denied. */
 #define HINET_ASSIGN_DENIED 0xFF
+
+/* Where a site file has its first fault. */
+#define HINET_PART_HEADER 0
+#define HINET_PART_USER 1           /* a user row */
+#define HINET_PART_PARTITION 2      /* a partition row */
+
+/* What is wrong there. */
+#define HINET_BREACH_RANGE 1        /* out of range */
+#define HINET_BREACH_NAME 2         /* the name of an earlier row */
+#define HINET_BREACH_NUMBER 3       /* volume and number of an earlier row */
+#define HINET_BREACH_OVERLAP 4      /* sectors of an earlier row */
 
 /* Fields of a lock table of 1024 bytes; row is 0 to 63. */
 
@@ -604,6 +639,47 @@ static inline void hinet_answer_login_serial(uint64_t answer,
         serial[i] = hinet_answer_byte(answer, 2 + i);
 }
 
+/* Refusal 10, kind FAULT: one of HINET_PART_... */
+static inline uint8_t hinet_fault_part(uint64_t answer)
+{
+    return hinet_answer_byte(answer, 0);
+}
+
+/* Refusal 10, kind FAULT: the row, counted from 0; 0 for the header. */
+static inline uint8_t hinet_fault_row(uint64_t answer)
+{
+    return hinet_answer_byte(answer, 1);
+}
+
+/* Refusal 10, kind FAULT: one of HINET_BREACH_... */
+static inline uint8_t hinet_fault_breach(uint64_t answer)
+{
+    return hinet_answer_byte(answer, 2);
+}
+
+/* A part of the site file, as text in English: "user row", before its number. */
+static inline const char *hinet_part_text(unsigned part)
+{
+    switch (part) {
+    case HINET_PART_HEADER:    return "header";
+    case HINET_PART_USER:      return "user row";
+    case HINET_PART_PARTITION: return "partition row";
+    default:                   return "no part";
+    }
+}
+
+/* What a breach means, as text in English, after part and row. */
+static inline const char *hinet_breach_text(unsigned breach)
+{
+    switch (breach) {
+    case HINET_BREACH_RANGE:   return "is out of range";
+    case HINET_BREACH_NAME:    return "repeats the name of an earlier row";
+    case HINET_BREACH_NUMBER:  return "repeats volume and number of an earlier row";
+    case HINET_BREACH_OVERLAP: return "overlaps an earlier row";
+    default:                   return "no breach";
+    }
+}
+
 /*
  * Fills fresh tables: 64 free rows, and only user 0 logged in.
  *
@@ -628,7 +704,7 @@ uint64_t hinet_check_tables(const uint8_t *locks, size_t locks_len,
 /*
  * Checks a site file by the rules above.
  *
- * Refusals: 10 for any breach.
+ * Refusals: 10 for any breach, with the first fault.
  * Memory: unchanged.
  * Answer: none (0).
  */
@@ -639,7 +715,7 @@ uint64_t hinet_check_site(const uint8_t *site, size_t site_len);
  *
  * Refusals, in this order:
  *   11  tables
- *   10  site file
+ *   10  site file, with its first fault
  *    1  frame is empty
  *    2  number is not 0 to 63 or 253, or is 0 to 63 and not logged in;
  *       every number above 255 is refused here too
@@ -684,7 +760,7 @@ uint64_t hinet_frame(uint32_t number,
  * + sector - 1. Sectors of a track are counted from 1 to 128.
  *
  * Refusals, in this order:
- *   10  site file
+ *   10  site file, with its first fault
  *    8  volume and partition name no row; a volume or partition above 255
  *       names none
  *    9  track not below the row's tracks, or sector not 1 to 128; so is a

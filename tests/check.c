@@ -51,9 +51,12 @@ static int unchanged(const struct lent *slice)
 
 /* ---- outcomes ---- */
 
-/* Refusals 1 to 15 have their own numbers as outcomes. */
+/* Refusals 1 to 15 have their own numbers as outcomes, but for 10: it has one
+ * for each kind of fault. */
 enum outcome {
-    NONE = 16,
+    FAULT_HEADER = 16, FAULT_USER_NAME,
+    FAULT_RANGE, FAULT_NAME, FAULT_NUMBER, FAULT_OVERLAP,
+    NONE,
     STATUS_00, STATUS_01, STATUS_02, STATUS_81, STATUS_82,
     ASSIGNED, ASSIGN_DENIED,
     PLACE,
@@ -66,6 +69,10 @@ enum outcome {
 };
 
 static const char *const outcome_names[OUTCOMES] = {
+    [FAULT_HEADER] = "refusal 10, header",
+    [FAULT_USER_NAME] = "refusal 10, user, name",
+    [FAULT_RANGE] = "refusal 10, row, range", [FAULT_NAME] = "refusal 10, row, name",
+    [FAULT_NUMBER] = "refusal 10, row, number", [FAULT_OVERLAP] = "refusal 10, row, overlap",
     [NONE] = "kind 0, none",
     [STATUS_00] = "kind 1, status 00", [STATUS_01] = "kind 1, status 01",
     [STATUS_02] = "kind 1, status 02", [STATUS_81] = "kind 1, status 81",
@@ -88,6 +95,7 @@ static const char *const outcome_names[OUTCOMES] = {
 
 #define BIT(outcome) ((uint64_t)1 << (outcome))
 #define BITS(first, last) (BIT((last) + 1) - BIT(first))
+#define FAULTS BITS(FAULT_HEADER, FAULT_OVERLAP)
 
 /* The entries and the outcomes each must be seen to have. */
 static const struct {
@@ -96,9 +104,10 @@ static const struct {
 } entries[ENTRIES] = {
     [ENTRY_FRESH] = { "hinet_fresh", BIT(11) | BIT(NONE) },
     [ENTRY_CHECK_TABLES] = { "hinet_check_tables", BIT(11) | BIT(NONE) },
-    [ENTRY_CHECK_SITE] = { "hinet_check_site", BIT(10) | BIT(NONE) },
-    [ENTRY_FRAME] = { "hinet_frame", BITS(1, 11) | BITS(NONE, LOGIN_FULL) },
-    [ENTRY_PLACE] = { "hinet_place", BITS(8, 10) | BIT(PLACE) },
+    [ENTRY_CHECK_SITE] = { "hinet_check_site", FAULTS | BIT(NONE) },
+    [ENTRY_FRAME] = { "hinet_frame",
+        BITS(1, 9) | FAULTS | BIT(11) | BITS(NONE, LOGIN_FULL) },
+    [ENTRY_PLACE] = { "hinet_place", BIT(8) | BIT(9) | FAULTS | BIT(PLACE) },
     [ENTRY_READ_FRAME] = { "hinet_read_frame",
         BIT(1) | BIT(3) | BIT(4) | BIT(6) | BITS(REQUEST_41, REQUEST_1F) },
     [ENTRY_WRITE_ACKNOWLEDGE] = { "hinet_write_acknowledge", BIT(13) | BIT(WRITTEN_1) },
@@ -189,10 +198,39 @@ static enum outcome request_outcome(uint64_t answer)
     }
 }
 
+/* A partition row's fault; row 0 has none before it to clash with. */
+static enum outcome row_fault_outcome(unsigned row, unsigned breach)
+{
+    if (breach == 1)
+        return row <= 63 ? FAULT_RANGE : OUTCOMES;
+    if (row < 1 || row > 63)
+        return OUTCOMES;
+    switch (breach) {
+    case 2:  return FAULT_NAME;
+    case 3:  return FAULT_NUMBER;
+    case 4:  return FAULT_OVERLAP;
+    default: return OUTCOMES;
+    }
+}
+
+/* A fault by part, row and breach. */
+static enum outcome fault_outcome(uint64_t answer)
+{
+    unsigned row = answer_byte(answer, 1), breach = answer_byte(answer, 2);
+    switch (answer_byte(answer, 0)) {
+    case 0:  return row == 0 && breach == 1 ? FAULT_HEADER : OUTCOMES;
+    case 1:  return row >= 1 && row <= 127 && breach == 2 ? FAULT_USER_NAME : OUTCOMES;
+    case 2:  return row_fault_outcome(row, breach);
+    default: return OUTCOMES;
+    }
+}
+
 /* The outcome that an answer tells, or OUTCOMES for one that cannot be. */
 static enum outcome outcome_of(uint64_t answer)
 {
     unsigned refusal = (unsigned)(answer & 0xFF);
+    if (refusal == 10)
+        return fault_outcome(answer);
     if (refusal != 0)
         return refusal <= 15 ? (enum outcome)refusal : OUTCOMES;
     switch (answer >> 8 & 0xFF) {
@@ -208,6 +246,14 @@ static enum outcome outcome_of(uint64_t answer)
     }
 }
 
+/* Are the bits above a refusal zero? Beside 10 stands kind 7 with three bytes. */
+static int nothing_above_refusal(uint64_t answer)
+{
+    if ((answer & 0xFF) == 10)
+        return (answer >> 8 & 0xFF) == 7 && answer >> 40 == 0;
+    return answer >> 8 == 0;
+}
+
 /* Are the bits above the answer's own bytes zero? No kind above 13 and none
  * from 7 to 12 has an answer. */
 static int nothing_above(uint64_t answer)
@@ -218,7 +264,7 @@ static int nothing_above(uint64_t answer)
     };
     unsigned kind = (unsigned)(answer >> 8 & 0xFF);
     if ((answer & 0xFF) != 0)
-        return answer >> 8 == 0;
+        return nothing_above_refusal(answer);
     if (kind >= KINDS || bytes[kind] == NO_KIND)
         return 0;
     return bytes[kind] == 6 || answer >> (16 + 8 * bytes[kind]) == 0;
@@ -303,6 +349,12 @@ void expect_refusal(unsigned refusal)
 {
     expect((last_call.library & 0xFF) == refusal,
            "not the refusal that this input was made for");
+}
+
+void expect_fault(unsigned part, unsigned row, unsigned breach)
+{
+    uint64_t word = (uint64_t)breach << 32 | (uint64_t)row << 24 | (uint64_t)part << 16 | 0x070A;
+    expect(last_call.library == word, "not the fault that this input was made for");
 }
 
 void expect(int true_here, const char *reason)

@@ -56,13 +56,17 @@ struct call {
 
 /*
  * Checks a call: equal answers, equal bytes, whole canaries, const memory as
- * it was; for a refusal no answer and no byte changed. Counts the outcome.
- * At the first difference it dumps the inputs and ends the program.
+ * it was; for a refusal no answer and no byte changed, and for 10 a fault that
+ * can be. Counts the outcome. At the first difference it dumps the inputs and
+ * ends the program.
  */
 void check_call(const struct call *call);
 
 /* The last call checked must have had this refusal, 0 for none. */
 void expect_refusal(unsigned refusal);
+
+/* The last call checked must have been refused 10 with this fault. */
+void expect_fault(unsigned part, unsigned row, unsigned breach);
 
 /* Ends the program with a reason and the inputs of the last call. */
 void fail(const char *reason);

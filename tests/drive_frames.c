@@ -10,9 +10,33 @@
 enum { SEED = 1983, ROUNDS = 20 };
 
 static struct rng rng;
-static struct site site;
+static struct site site, bad;
 static struct tables tables;
 static struct frame frame;
+
+/* ---- bad site files ---- */
+
+/* Lends the bad file, makes this call and expects the fault that the file was
+ * made for. */
+static void bad_site_gives(void (*call)(void), struct site_fault fault)
+{
+    desk_put_site(&bad);
+    call();
+    expect_fault(fault.part, fault.row, fault.breach);
+}
+
+/* Each rule broken alone, several in one row, and two faults in each order. */
+static void bad_sites_give(void (*call)(void))
+{
+    for (unsigned damage = 0; damage < SITE_DAMAGES; damage++)
+        bad_site_gives(call, site_damaged(&rng, &bad, (enum site_damage)damage));
+    for (unsigned breaches = 2; breaches <= BROKEN_ALL; breaches += 2)
+        bad_site_gives(call, site_row_broken(&rng, &bad, breaches));
+    for (unsigned first = 0; first < FAULTY_KINDS; first++)
+        for (unsigned second = 0; second < FAULTY_KINDS; second++)
+            bad_site_gives(call, site_broken_twice(&rng, &bad, (enum fault_kind)first,
+                                                   (enum fault_kind)second));
+}
 
 /* ---- fresh tables, checks ---- */
 
@@ -39,30 +63,58 @@ static void tables_give(unsigned refusal)
     expect_refusal(refusal);
 }
 
-static void site_gives(unsigned refusal)
+static void check_site(void)
+{
+    desk_check_site();
+}
+
+static void site_is_good(void)
 {
     desk_put_site(&site);
     desk_check_site();
-    expect_refusal(refusal);
+    expect_refusal(0);
+}
+
+static void site_has_fault(unsigned part, unsigned row, unsigned breach)
+{
+    desk_put_site(&site);
+    desk_check_site();
+    expect_fault(part, row, breach);
 }
 
 static void sites(void)
 {
     for (unsigned limit = 0; limit < SITE_LIMITS; limit++) {
         site_at_limit(&rng, &site, (enum site_limit)limit);
-        site_gives(0);
+        site_is_good();
     }
-    for (unsigned damage = 0; damage < SITE_DAMAGES; damage++) {
-        site_damaged(&rng, &site, (enum site_damage)damage);
-        site_gives(10);
-    }
+    bad_sites_give(check_site);
     site_any(&rng, &site);
-    site_gives(0);
+    site_is_good();
     for (unsigned i = 0; i < 20; i++) {
         site_scrambled(&rng, &site);
         desk_put_site(&site);
         desk_check_site();
     }
+    for (unsigned i = 0; i < 60; i++) {
+        site_spoiled(&rng, &site);
+        desk_put_site(&site);
+        desk_check_site();
+    }
+}
+
+/* A file of every length around the right one, which has a user's name twice.
+ * Of any other length the header is at fault. */
+static void lengths_of_site(void)
+{
+    site_good(&rng, &site, 3, 4, 2);
+    size_t whole = site.len;
+    memcpy(site.bytes + 8 + 16, site.bytes + 8, 8);
+    for (site.len = 0; site.len <= whole + 40; site.len++)
+        if (site.len == whole)
+            site_has_fault(PART_USER, 1, BREACH_NAME);
+        else
+            site_has_fault(PART_HEADER, 0, BREACH_RANGE);
 }
 
 static void tables_of_all_kinds(void)
@@ -110,7 +162,7 @@ static void one_byte_of_fresh(void)
 
 /* Each row in turn gets a field of the row before, of the first and of any. */
 static void repeat_field(uint8_t *rows, size_t row, unsigned count,
-                         size_t field, size_t len, void (*give)(unsigned), unsigned refusal)
+                         size_t field, size_t len, void (*found)(unsigned))
 {
     uint8_t kept[16];
     for (unsigned i = 1; i < count; i++) {
@@ -119,21 +171,61 @@ static void repeat_field(uint8_t *rows, size_t row, unsigned count,
         memcpy(kept, here, len);
         for (unsigned k = 0; k < 3; k++) {
             memcpy(here, rows + row * earlier[k] + field, len);
-            give(refusal);
+            found(i);
         }
         memcpy(here, kept, len);
     }
 }
 
+static void lock_repeated(unsigned row)
+{
+    (void)row;
+    tables_give(11);
+}
+
+static void user_repeated(unsigned row)
+{
+    site_has_fault(PART_USER, row, BREACH_NAME);
+}
+
+static void name_repeated(unsigned row)
+{
+    site_has_fault(PART_PARTITION, row, BREACH_NAME);
+}
+
+static void number_repeated(unsigned row)
+{
+    site_has_fault(PART_PARTITION, row, BREACH_NUMBER);
+}
+
+static void sectors_repeated(unsigned row)
+{
+    site_has_fault(PART_PARTITION, row, BREACH_OVERLAP);
+}
+
 static void repeated_rows(void)
 {
     tables_played(&rng, &tables, rng_below(&rng, 64), 64);
-    repeat_field(tables.locks, 16, 64, 1, 14, tables_give, 11);
+    repeat_field(tables.locks, 16, 64, 1, 14, lock_repeated);
     site_good(&rng, &site, 128, 4, 2);
-    repeat_field(site.bytes + 8, 16, 128, 0, 8, site_gives, 10);
+    repeat_field(site.bytes + 8, 16, 128, 0, 8, user_repeated);
     site_good(&rng, &site, 0, 64, 4);
-    repeat_field(site.bytes + 8, 24, 64, 0, 8, site_gives, 10);
-    repeat_field(site.bytes + 8, 24, 64, 14, 2, site_gives, 10);
+    repeat_field(site.bytes + 8, 24, 64, 0, 8, name_repeated);
+    repeat_field(site.bytes + 8, 24, 64, 14, 2, number_repeated);
+    site_at_limit(&rng, &site, LIMIT_FULL_VOLUME);
+    repeat_field(site.bytes + 8 + 16 * site_users(&site), 24, 64, 18, 4, sectors_repeated);
+}
+
+/* Each partition row of the largest file in turn is out of range. */
+static void rows_out_of_range(void)
+{
+    site_good(&rng, &site, 128, 64, 4);
+    for (unsigned i = 0; i < 64; i++) {
+        uint8_t *spare = site.bytes + 8 + 16 * 128 + 24 * i + 22 + rng_below(&rng, 2);
+        *spare = rng_nonzero(&rng);
+        site_has_fault(PART_PARTITION, i, BREACH_RANGE);
+        *spare = 0;
+    }
 }
 
 /* ---- frames on damaged tables and damaged site files ---- */
@@ -142,6 +234,13 @@ static uint32_t draw_frame(void)
 {
     enum mood mood = (enum mood)rng_below(&rng, MOODS);
     return next_frame(&rng, mood, &site, desk.ref_locks, desk.ref_stations, &frame);
+}
+
+/* A frame for the good file. */
+static void any_frame(void)
+{
+    uint32_t number = draw_frame();
+    desk_frame(number, &frame);
 }
 
 static void frames_on_damage(void)
@@ -153,22 +252,16 @@ static void frames_on_damage(void)
         desk_put_site(&site);
         desk_frame(draw_frame(), &frame);
         expect_refusal(11);
-        site_damaged(&rng, &site, (enum site_damage)rng_below(&rng, SITE_DAMAGES));
-        desk_put_site(&site);
+        site_damaged(&rng, &bad, (enum site_damage)rng_below(&rng, SITE_DAMAGES));
+        desk_put_site(&bad);
         frame_good(&rng, &frame, CODE_CLEAR, 0, &site);
         desk_frame(number_any(&rng), &frame);
         expect_refusal(11);
     }
     tables_any(&rng, &tables);
     desk_put_tables(&tables);
-    for (unsigned damage = 0; damage < SITE_DAMAGES; damage++) {
-        site_any(&rng, &site);
-        uint32_t number = draw_frame();
-        site_damaged(&rng, &site, (enum site_damage)damage);
-        desk_put_site(&site);
-        desk_frame(number, &frame);
-        expect_refusal(10);
-    }
+    site_any(&rng, &site);
+    bad_sites_give(any_frame);
     for (unsigned i = 0; i < 20; i++) {
         tables_scrambled(&rng, &tables);
         desk_put_tables(&tables);
@@ -309,6 +402,12 @@ static void places_near(const struct site *good, unsigned count)
     }
 }
 
+/* A place in the good file. */
+static void any_place(void)
+{
+    places_near(&site, 1);
+}
+
 static void places(void)
 {
     for (unsigned i = 0; i < 12; i++) {
@@ -321,13 +420,7 @@ static void places(void)
         desk_put_site(&site);
         places_near(&site, 30);
     }
-    for (unsigned damage = 0; damage < SITE_DAMAGES; damage++) {
-        struct site bad;
-        site_damaged(&rng, &bad, (enum site_damage)damage);
-        desk_put_site(&bad);
-        places_near(&site, 1);
-        expect_refusal(10);
-    }
+    bad_sites_give(any_place);
 }
 
 /* ---- long runs from fresh tables ---- */
@@ -363,6 +456,13 @@ static void login_agrees(uint64_t answer)
            "header: name in the record");
 }
 
+/* The fault beside a refusal: the header tells it as the word has it. */
+static void fault_agrees(uint64_t answer)
+{
+    expect(hinet_answer_refusal(answer) == HINET_REFUSED_SITE, "header: refusal of a fault");
+    expect_fault(hinet_fault_part(answer), hinet_fault_row(answer), hinet_fault_breach(answer));
+}
+
 /* What the header's inline functions tell must fit the frame. */
 static void header_agrees(uint64_t answer)
 {
@@ -384,6 +484,9 @@ static void header_agrees(uint64_t answer)
     case HINET_KIND_LOGIN:
         login_agrees(answer);
         break;
+    case HINET_KIND_FAULT:
+        fault_agrees(answer);
+        break;
     default:
         fail("a kind that no frame is answered with");
     }
@@ -392,11 +495,11 @@ static void header_agrees(uint64_t answer)
 /* A frame with a site file that is no good leaves the run as it is. */
 static void bad_site_between(void)
 {
-    struct site bad;
-    site_damaged(&rng, &bad, (enum site_damage)rng_below(&rng, SITE_DAMAGES));
+    struct site_fault fault =
+        site_damaged(&rng, &bad, (enum site_damage)rng_below(&rng, SITE_DAMAGES));
     desk_put_site(&bad);
-    desk_frame(draw_frame(), &frame);
-    expect_refusal(10);
+    header_agrees(desk_frame(draw_frame(), &frame));
+    expect_fault(fault.part, fault.row, fault.breach);
     desk_put_site(&site);
 }
 
@@ -440,7 +543,9 @@ static void one_round(void)
     }
     one_byte_of_fresh();
     one_byte_of_site();
+    lengths_of_site();
     repeated_rows();
+    rows_out_of_range();
     faults_together();
     numbers_and_codes();
     places();

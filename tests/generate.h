@@ -56,6 +56,13 @@ enum site_limit {
 };
 void site_at_limit(struct rng *rng, struct site *site, enum site_limit limit);
 
+/* What a bad file was made for: its first fault. */
+enum { PART_HEADER = 0, PART_USER = 1, PART_PARTITION = 2 };
+enum { BREACH_RANGE = 1, BREACH_NAME = 2, BREACH_NUMBER = 3, BREACH_OVERLAP = 4, BREACHES = 5 };
+struct site_fault {
+    unsigned part, row, breach;
+};
+
 /* Files that break one rule. */
 enum site_damage {
     SITE_NO_BYTES, SITE_7_BYTES, SITE_SHORT_BY_1, SITE_LONG_BY_1,
@@ -72,7 +79,24 @@ enum site_damage {
     SITE_OVERLAP_BELOW, SITE_OVERLAP_ABOVE, SITE_OVERLAP_INSIDE,
     SITE_DAMAGES
 };
-void site_damaged(struct rng *rng, struct site *site, enum site_damage damage);
+struct site_fault site_damaged(struct rng *rng, struct site *site, enum site_damage damage);
+
+/* Files with one partition row that breaks several rules, bit b set for breach
+ * b; the first of them counts. */
+enum { BROKEN_ALL = (1 << BREACHES) - 2 };
+struct site_fault site_row_broken(struct rng *rng, struct site *site, unsigned breaches);
+
+/* Files with two faults of these kinds, the first in an earlier row where both
+ * are in one part. */
+enum fault_kind {
+    FAULTY_HEADER, FAULTY_USER, FAULTY_RANGE, FAULTY_NAME, FAULTY_NUMBER, FAULTY_OVERLAP,
+    FAULTY_KINDS
+};
+struct site_fault site_broken_twice(struct rng *rng, struct site *site,
+                                    enum fault_kind first, enum fault_kind second);
+
+/* A file with a few fields that are another row's or drawn anew: good or not. */
+void site_spoiled(struct rng *rng, struct site *site);
 
 /* A file with a few bytes changed, or of random bytes: good or not. */
 void site_scrambled(struct rng *rng, struct site *site);

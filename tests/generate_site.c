@@ -354,31 +354,229 @@ static void damage_pair(struct rng *rng, struct site *site, enum site_damage dam
     }
 }
 
-static void repeat_user(struct rng *rng, struct site *site)
+/* The later of the two rows is named. */
+static struct site_fault repeat_user(struct rng *rng, struct site *site)
 {
     unsigned count = 2 + rng_below(rng, 127);
     site_good(rng, site, count, rng_below(rng, 10), 2);
     unsigned i = rng_below(rng, count);
     unsigned j = (i + 1 + rng_below(rng, count - 1)) % count;
     memcpy(user(site, i), user(site, j), 8);
+    struct site_fault fault = { PART_USER, i > j ? i : j, BREACH_NAME };
+    return fault;
 }
 
-void site_damaged(struct rng *rng, struct site *site, enum site_damage damage)
+/* The breach of a damage in a partition row. */
+static unsigned breach_of(enum site_damage damage)
 {
-    if (damage < SITE_VOLUME_4) {
-        damage_header(rng, site, damage);
-    } else if (damage == SITE_USER_TWICE) {
-        repeat_user(rng, site);
-    } else {
-        with_volume_3_free(rng, site);
-        if (damage == SITE_ENDS_1_BEYOND)
-            last_place(rng, site, 1);
-        else if (damage < SITE_USER_TWICE)
-            damage_row(rng, site, damage);
-        else
-            damage_pair(rng, site, damage);
-        mix_rows(rng, site);
+    switch (damage) {
+    case SITE_NAME_TWICE:   return BREACH_NAME;
+    case SITE_NUMBER_TWICE: return BREACH_NUMBER;
+    case SITE_OVERLAP_BELOW:
+    case SITE_OVERLAP_ABOVE:
+    case SITE_OVERLAP_INSIDE:
+        return BREACH_OVERLAP;
+    default:
+        return BREACH_RANGE;
     }
+}
+
+/* The last of the added rows, wherever they were moved: of a pair the later. */
+static unsigned last_added(const struct site *site)
+{
+    unsigned i = site_partitions(site) - 1;
+    while (i > 0 && memcmp(site_partition(site, i), "\xE0 added", 7) != 0)
+        i--;
+    return i;
+}
+
+static struct site_fault damage_partitions(struct rng *rng, struct site *site,
+                                           enum site_damage damage)
+{
+    with_volume_3_free(rng, site);
+    if (damage == SITE_ENDS_1_BEYOND)
+        last_place(rng, site, 1);
+    else if (damage < SITE_USER_TWICE)
+        damage_row(rng, site, damage);
+    else
+        damage_pair(rng, site, damage);
+    mix_rows(rng, site);
+    struct site_fault fault = { PART_PARTITION, last_added(site), breach_of(damage) };
+    return fault;
+}
+
+struct site_fault site_damaged(struct rng *rng, struct site *site, enum site_damage damage)
+{
+    struct site_fault header = { PART_HEADER, 0, BREACH_RANGE };
+    if (damage == SITE_USER_TWICE)
+        return repeat_user(rng, site);
+    if (damage >= SITE_VOLUME_4)
+        return damage_partitions(rng, site, damage);
+    damage_header(rng, site, damage);
+    return header;
+}
+
+/* ---- several faults at once ---- */
+
+enum { APART = 16384 };         /* sectors from one row to the next on volume 3 */
+
+/* Adds a good row on volume 3, apart from the others there. */
+static uint8_t *add_apart(struct site *site)
+{
+    unsigned count = site_partitions(site);
+    return add_row(site, count, APART * count);
+}
+
+static void add_good(struct rng *rng, struct site *site)
+{
+    for (unsigned n = rng_below(rng, 3); n > 0; n--)
+        add_apart(site);
+}
+
+/* A good file with three rows on volume 3, for rows added later to clash with.
+ * Returns its partitions. */
+static unsigned with_rows_to_meet(struct rng *rng, struct site *site)
+{
+    unsigned users = 7 + rng_below(rng, 20);
+    site_good(rng, site, users, rng_below(rng, 30), 3);
+    for (unsigned n = 0; n < 3; n++) {
+        add_apart(site);
+        swap_partitions(site, site_partitions(site) - 1, rng_below(rng, site_partitions(site)));
+    }
+    return site_partitions(site);
+}
+
+/* Any row on volume 3 below count. */
+static const uint8_t *row_to_meet(struct rng *rng, const struct site *site, unsigned count)
+{
+    unsigned i = rng_below(rng, count);
+    while (site_partition(site, i)[VOLUME] != 3)
+        i = (i + 1) % count;
+    return site_partition(site, i);
+}
+
+static uint32_t first_of(const uint8_t *row)
+{
+    const uint8_t *first = row + FIRST;
+    return first[0] | (uint32_t)first[1] << 8 | (uint32_t)first[2] << 16 | (uint32_t)first[3] << 24;
+}
+
+/* A row out of range that can still clash. */
+static void break_range(struct rng *rng, uint8_t *row)
+{
+    switch (rng_below(rng, 4)) {
+    case 0:  row[SPARE] = rng_nonzero(rng); break;
+    case 1:  row[SPARE + 1] = rng_nonzero(rng); break;
+    case 2:  row[SIZE] = 7; break;
+    default: row[SIZE] = 0; break;
+    }
+}
+
+/* Adds a row that breaks these rules, beside rows below count. A long one may
+ * overlap several. */
+static struct site_fault add_broken(struct rng *rng, struct site *site,
+                                    unsigned count, unsigned breaches)
+{
+    add_good(rng, site);
+    struct site_fault fault = { PART_PARTITION, site_partitions(site), BREACH_RANGE };
+    uint8_t *row = add_apart(site);
+    if (breaches & 1u << BREACH_NAME)
+        memcpy(row, partition(site, rng_below(rng, count)), 8);
+    if (breaches & 1u << BREACH_NUMBER)
+        row[NUMBER] = row_to_meet(rng, site, count)[NUMBER];
+    if (breaches & 1u << BREACH_OVERLAP) {
+        row[SIZE] = (uint8_t)(1 + rng_below(rng, 6));
+        put32(row + FIRST, first_of(row_to_meet(rng, site, count)) + rng_below(rng, SMALLEST));
+    }
+    if (breaches & 1u << BREACH_RANGE)
+        break_range(rng, row);
+    while ((breaches & 1u << fault.breach) == 0)
+        fault.breach++;
+    return fault;
+}
+
+struct site_fault site_row_broken(struct rng *rng, struct site *site, unsigned breaches)
+{
+    unsigned count = with_rows_to_meet(rng, site);
+    struct site_fault fault = add_broken(rng, site, count, breaches);
+    add_good(rng, site);
+    return fault;
+}
+
+/* Any one of these by itself is a fault, and none mends another. */
+static void break_header(struct rng *rng, struct site *site)
+{
+    switch (rng_below(rng, 5)) {
+    case 0:  site->bytes[1] = 1; break;
+    case 1:  site->bytes[2] = 9; break;
+    case 2:  site->bytes[5] = 1; break;
+    case 3:  site->bytes[7] |= 0x80; break;
+    default: site->len++; break;
+    }
+}
+
+/* One of three user rows gets the name of a row before it. */
+static struct site_fault break_user(struct rng *rng, struct site *site, unsigned from)
+{
+    struct site_fault fault = { PART_USER, from + rng_below(rng, 3), BREACH_NAME };
+    memcpy(user(site, fault.row), user(site, rng_below(rng, fault.row)), 8);
+    return fault;
+}
+
+/* Breaks a file in this way; a header is broken when the rows are done. */
+static struct site_fault break_part(struct rng *rng, struct site *site, unsigned count,
+                                    enum fault_kind kind, unsigned user_from)
+{
+    struct site_fault header = { PART_HEADER, 0, BREACH_RANGE };
+    switch (kind) {
+    case FAULTY_HEADER: return header;
+    case FAULTY_USER:   return break_user(rng, site, user_from);
+    default:            return add_broken(rng, site, count, 2u << (kind - FAULTY_RANGE));
+    }
+}
+
+struct site_fault site_broken_twice(struct rng *rng, struct site *site,
+                                    enum fault_kind first, enum fault_kind second)
+{
+    unsigned count = with_rows_to_meet(rng, site);
+    struct site_fault a = break_part(rng, site, count, first, 1);
+    struct site_fault b = break_part(rng, site, count, second, 4);
+    add_good(rng, site);
+    if (first == FAULTY_HEADER)
+        break_header(rng, site);
+    if (second == FAULTY_HEADER)
+        break_header(rng, site);
+    return b.part < a.part ? b : a;
+}
+
+/* ---- good or not ---- */
+
+/* A field of one row becomes another row's, or is drawn anew. */
+static void spoil_row(struct rng *rng, struct site *site)
+{
+    unsigned users = site_users(site), rows = site_partitions(site);
+    uint8_t *name = user(site, rng_below(rng, users));
+    uint8_t *row = partition(site, rng_below(rng, rows));
+    const uint8_t *other = partition(site, rng_below(rng, rows));
+    switch (rng_below(rng, 8)) {
+    case 0:  memmove(name, user(site, rng_below(rng, users)), 8); break;
+    case 1:  memmove(row, other, 8); break;
+    case 2:  memmove(row + VOLUME, other + VOLUME, 2); break;
+    case 3:  row[VOLUME] = (uint8_t)rng_below(rng, 5); break;
+    case 4:  row[NUMBER] = (uint8_t)rng_below(rng, 66); break;
+    case 5:  row[SIZE] = (uint8_t)rng_below(rng, 8); break;
+    case 6:  memmove(row + FIRST, other + FIRST, 4); row[VOLUME] = other[VOLUME]; break;
+    default: row[SPARE + rng_below(rng, 2)] = (uint8_t)rng_below(rng, 2); break;
+    }
+}
+
+void site_spoiled(struct rng *rng, struct site *site)
+{
+    unsigned most = rng_one_in(rng, 8) ? 64 : 12;
+    unsigned users = 1 + rng_below(rng, 2 * most), partitions = 1 + rng_below(rng, most);
+    site_good(rng, site, users, partitions, 1 + rng_below(rng, 4));
+    for (unsigned n = 1 + rng_below(rng, 6); n > 0; n--)
+        spoil_row(rng, site);
 }
 
 void site_scrambled(struct rng *rng, struct site *site)

@@ -84,6 +84,7 @@ static void refusals_and_kinds(void)
     SAME(HINET_KIND_LOGIN, 4);
     SAME(HINET_KIND_TURN, 5);
     SAME(HINET_KIND_WRITTEN, 6);
+    SAME(HINET_KIND_FAULT, 7);
     SAME(HINET_KIND_REQUEST, 13);
 }
 
@@ -135,6 +136,13 @@ static void table_constants(void)
     SAME(HINET_STATUS_HELD, 0x81);
     SAME(HINET_STATUS_FULL, 0x82);
     SAME(HINET_ASSIGN_DENIED, 0xFF);
+    SAME(HINET_PART_HEADER, 0);
+    SAME(HINET_PART_USER, 1);
+    SAME(HINET_PART_PARTITION, 2);
+    SAME(HINET_BREACH_RANGE, 1);
+    SAME(HINET_BREACH_NAME, 2);
+    SAME(HINET_BREACH_NUMBER, 3);
+    SAME(HINET_BREACH_OVERLAP, 4);
     SAME(HINET_STATE_PLACES, 64);
     SAME(HINET_STATE_PLACE_BYTES, 14);
     SAME(HINET_STATE_AWAITED, 896);
@@ -144,10 +152,10 @@ static void table_constants(void)
 
 static void version(void)
 {
-    SAME(HINET_VERSION_MAJOR, 1);
+    SAME(HINET_VERSION_MAJOR, 2);
     SAME(HINET_VERSION_MINOR, 0);
     SAME(HINET_VERSION_PATCH, 0);
-    SAME(strcmp(HINET_VERSION, "1.0.0"), 0);
+    SAME(strcmp(HINET_VERSION, "2.0.0"), 0);
 }
 
 /* ---- types ---- */
@@ -189,6 +197,9 @@ static void word_of(uint64_t word, const uint8_t bytes[8], uint32_t sector)
     same_bytes("hinet_answer_login_serial", serial, (const char *)bytes + 4, 4);
     SAME(hinet_answer_due(word), bytes[2]);
     SAME(hinet_answer_out(word), bytes[3]);
+    SAME(hinet_fault_part(word), bytes[2]);
+    SAME(hinet_fault_row(word), bytes[3]);
+    SAME(hinet_fault_breach(word), bytes[4]);
 }
 
 /* Two words: where a bit is set in one of them it is not set in the other. */
@@ -227,6 +238,25 @@ static void refusal_texts(void)
     SAME(strcmp(hinet_refusal_text(255), texts[16]), 0);
     SAME(strcmp(hinet_refusal_text(256), texts[16]), 0);
     SAME(strcmp(hinet_refusal_text(0xFFFFFFFFu), texts[16]), 0);
+}
+
+/* The text of each part and each breach, and of a number that is none. */
+static void fault_texts(void)
+{
+    SAME(strcmp(hinet_part_text(0), "header"), 0);
+    SAME(strcmp(hinet_part_text(1), "user row"), 0);
+    SAME(strcmp(hinet_part_text(2), "partition row"), 0);
+    SAME(strcmp(hinet_part_text(3), "no part"), 0);
+    SAME(strcmp(hinet_part_text(256), "no part"), 0);
+    SAME(strcmp(hinet_part_text(0xFFFFFFFFu), "no part"), 0);
+    SAME(strcmp(hinet_breach_text(0), "no breach"), 0);
+    SAME(strcmp(hinet_breach_text(1), "is out of range"), 0);
+    SAME(strcmp(hinet_breach_text(2), "repeats the name of an earlier row"), 0);
+    SAME(strcmp(hinet_breach_text(3), "repeats volume and number of an earlier row"), 0);
+    SAME(strcmp(hinet_breach_text(4), "overlaps an earlier row"), 0);
+    SAME(strcmp(hinet_breach_text(5), "no breach"), 0);
+    SAME(strcmp(hinet_breach_text(257), "no breach"), 0);
+    SAME(strcmp(hinet_breach_text(0xFFFFFFFFu), "no breach"), 0);
 }
 
 /* ---- fields of frames, tables and states ---- */
@@ -381,6 +411,86 @@ static void entries_of_the_master(void)
     SAME(hinet_record_misses(stations, 1), 0);
 }
 
+/* ANNA and ANNE, and three partitions of size 1 on volume 1: STOCK1 to STOCK3,
+ * numbers 0 to 2, first sectors 2048, 4096 and 6144. */
+static const uint8_t good_site[112] = {
+    2, 0, 8, 0, 3, 0, 40, 0,
+    'A', 'N', 'N', 'A', ' ', ' ', ' ', ' ', 'S', 'E', 'C', 'R', 'E', 'T', 0, 0,
+    'A', 'N', 'N', 'E', ' ', ' ', ' ', ' ', 'S', 'E', 'C', 'R', 'E', 'T', 0, 0,
+    'S', 'T', 'O', 'C', 'K', '1', ' ', ' ', 0, 0, 0, 0, 0, 0, 1, 0, 1, 0, 0, 8, 0, 0, 0, 0,
+    'S', 'T', 'O', 'C', 'K', '2', ' ', ' ', 0, 0, 0, 0, 0, 0, 1, 1, 1, 0, 0, 16, 0, 0, 0, 0,
+    'S', 'T', 'O', 'C', 'K', '3', ' ', ' ', 0, 0, 0, 0, 0, 0, 1, 2, 1, 0, 0, 24, 0, 0, 0, 0
+};
+
+/* The good file with two of its bytes changed, or one twice, and the word for it:
+ * breach, row, part, kind 7, refusal 10. */
+static const struct {
+    const char *what;
+    uint8_t at, byte, then_at, then_byte;
+    uint64_t word;
+} faults[] = {
+    { "no change", 4, 3, 4, 3, 0 },
+    { "129 users", 0, 129, 0, 129, UINT64_C(0x010000070A) },
+    { "user offset 9", 2, 9, 2, 9, UINT64_C(0x010000070A) },
+    { "2 partitions", 4, 2, 4, 2, UINT64_C(0x010000070A) },
+    { "partition offset 41", 6, 41, 6, 41, UINT64_C(0x010000070A) },
+    { "ANNA twice", 27, 'A', 27, 'A', UINT64_C(0x020101070A) },
+    { "row 0, volume 4", 54, 4, 54, 4, UINT64_C(0x010002070A) },
+    { "row 1, number 64", 79, 64, 79, 64, UINT64_C(0x010102070A) },
+    { "row 2, size code 0", 104, 0, 104, 0, UINT64_C(0x010202070A) },
+    { "row 2, size code 7", 104, 7, 104, 7, UINT64_C(0x010202070A) },
+    { "row 2, first sector 1054720", 108, 16, 108, 16, UINT64_C(0x010202070A) },
+    { "row 2, spare 1 0", 110, 1, 110, 1, UINT64_C(0x010202070A) },
+    { "row 2, spare 0 255", 111, 255, 111, 255, UINT64_C(0x010202070A) },
+    { "row 1, STOCK1", 69, '1', 69, '1', UINT64_C(0x020102070A) },
+    { "row 0, STOCK3", 45, '3', 45, '3', UINT64_C(0x020202070A) },
+    { "row 2, number 0", 103, 0, 103, 0, UINT64_C(0x030202070A) },
+    { "row 1, first sector 4095", 82, 255, 83, 15, UINT64_C(0x040102070A) },
+    { "row 2, size 2 in row 1", 80, 2, 80, 2, UINT64_C(0x040202070A) },
+    { "one row, spare and name", 110, 1, 93, '1', UINT64_C(0x010202070A) },
+    { "one row, spare and overlap", 111, 1, 107, 8, UINT64_C(0x010202070A) },
+    { "one row, name and number", 93, '1', 103, 1, UINT64_C(0x020202070A) },
+    { "one row, name and overlap", 93, '2', 107, 8, UINT64_C(0x020202070A) },
+    { "one row, number and overlap", 103, 1, 107, 8, UINT64_C(0x030202070A) },
+    { "header and user", 6, 41, 27, 'A', UINT64_C(0x010000070A) },
+    { "header and row 0", 7, 1, 54, 4, UINT64_C(0x010000070A) },
+    { "user and row 0", 27, 'A', 54, 4, UINT64_C(0x020101070A) },
+    { "row 1 overlaps, row 2 out of range", 83, 15, 102, 4, UINT64_C(0x040102070A) },
+    { "row 1 out of range, row 2 overlaps", 78, 4, 107, 8, UINT64_C(0x010102070A) },
+    { "row 1, number; row 2, name", 79, 0, 93, '1', UINT64_C(0x030102070A) }
+};
+
+/* The same word from each entry that is lent the file. */
+static void site_gives(const char *what, const uint8_t *site, size_t len, uint64_t word)
+{
+    static uint8_t locks[1024], stations[1152];
+    const uint8_t acknowledge = 0x41;
+    hinet_fresh(locks, 1024, stations, 1152);
+    same(what, hinet_check_site(site, len), word);
+    same(what, hinet_frame(0, &acknowledge, 1, site, len, locks, 1024, stations, 1152), word);
+    if (word != 0)
+        same(what, hinet_place(hinet_volume_of(1), hinet_partition_of(0), hinet_track_of(0),
+                               hinet_sector_of(1), site, len), word);
+}
+
+static void faults_of_a_site(void)
+{
+    uint8_t site[113];
+    for (unsigned i = 0; i < sizeof faults / sizeof *faults; i++) {
+        memcpy(site, good_site, 112);
+        site[faults[i].at] = faults[i].byte;
+        site[faults[i].then_at] = faults[i].then_byte;
+        site_gives(faults[i].what, site, 112, faults[i].word);
+    }
+    memcpy(site, good_site, 112);
+    site[112] = 0;
+    site_gives("no bytes", site, 0, UINT64_C(0x010000070A));
+    site_gives("7 bytes", site, 7, UINT64_C(0x010000070A));
+    site_gives("8 bytes", site, 8, UINT64_C(0x010000070A));
+    site_gives("111 bytes", site, 111, UINT64_C(0x010000070A));
+    site_gives("113 bytes", site, 113, UINT64_C(0x010000070A));
+}
+
 static void entries_of_a_station(void)
 {
     static uint8_t station[911];
@@ -404,12 +514,14 @@ int main(void)
     types();
     words();
     refusal_texts();
+    fault_texts();
     request_fields();
     row_fields();
     record_fields();
     state_fields();
     entries_of_frames();
     entries_of_the_master();
+    faults_of_a_site();
     entries_of_a_station();
     printf("header: %lu compared, %lu different\n", compared, different);
     return different == 0 ? 0 : 1;

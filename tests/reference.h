@@ -64,6 +64,10 @@ uint64_t ref_station_frame(const uint8_t *station, size_t station_len,
 uint64_t ref_station_reply(uint8_t *station, size_t station_len,
                            uint32_t reply);
 
+/* The earlier row of the pair that a fault names: the first one before the row
+ * named that clashes with it in the way named. Only for a fault of a pair. */
+unsigned ref_earlier_row(const uint8_t *site, uint64_t fault);
+
 /* A line of the session program. */
 void ref_print_line(FILE *out, unsigned long index, uint8_t number, uint64_t answer);
 

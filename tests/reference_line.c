@@ -5,9 +5,12 @@
 
 #include <stdlib.h>
 
+/* A refused record has no answer, whatever stands beside its refusal. */
 static void print_answer(FILE *out, uint64_t answer)
 {
     uint8_t bytes[6];
+    if ((answer & 0xFF) != 0)
+        answer = 0;
     for (unsigned i = 0; i < 6; i++)
         bytes[i] = (uint8_t)(answer >> (16 + 8 * i) & 0xFF);
     switch (answer >> 8 & 0xFF) {

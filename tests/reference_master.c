@@ -178,8 +178,9 @@ uint64_t ref_frame(uint32_t number,
 {
     if (!ref_tables_good(locks, locks_len, stations, stations_len))
         return 11;
-    if (!ref_site_good(site, site_len))
-        return 10;
+    uint64_t fault = ref_check_site(site, site_len);
+    if (fault != 0)
+        return fault;
     unsigned refused = refusal(number, frame, frame_len, stations);
     if (refused != 0)
         return refused;

@@ -88,7 +88,6 @@ size_t ref_frame_length(uint8_t code);
 int ref_has_dtn(uint8_t code);
 
 /* The site file. A search gives the row, or NULL. */
-int ref_site_good(const uint8_t *site, size_t site_len);
 int ref_user_known(const uint8_t *site, const uint8_t *name, const uint8_t *password);
 const uint8_t *ref_partition_named(const uint8_t *site, const uint8_t *name);
 uint64_t ref_place_in(const uint8_t *site, uint32_t volume, uint32_t partition,

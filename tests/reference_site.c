@@ -58,6 +58,19 @@ static int same_name(const uint8_t *a, const uint8_t *b)
     return memcmp(a, b, 8) == 0;
 }
 
+/* ---- the check ---- */
+
+/* The bytes of a fault: where it is, and what is wrong there. */
+enum { IN_HEADER = 0, IN_USER_ROW = 1, IN_PARTITION_ROW = 2 };
+enum { NO_BREACH = 0, RANGE = 1, NAME_TWICE = 2, NUMBER_TWICE = 3, OVERLAP = 4 };
+
+/* Refusal 10 with its fault: kind 7, then part, row and breach. */
+static uint64_t fault_word(unsigned part, unsigned row, unsigned breach)
+{
+    return 10 | 7 << 8 | ref_byte(0, (uint8_t)part) | ref_byte(1, (uint8_t)row)
+         | ref_byte(2, (uint8_t)breach);
+}
+
 static int header_good(const uint8_t *site, size_t site_len)
 {
     if (site_len < HEADER)
@@ -73,18 +86,27 @@ static int header_good(const uint8_t *site, size_t site_len)
     return site_len == HEADER + USER_ROW * users + PARTITION_ROW * partitions;
 }
 
+/* The first user row with the name of row i, which is i where none before it has
+ * that name. */
+static unsigned first_user_named(const uint8_t *rows, unsigned i)
+{
+    unsigned j = 0;
+    while (j < i && !same_name(rows + USER_ROW * j, rows + USER_ROW * i))
+        j++;
+    return j;
+}
+
 /* No two users share a name. */
-static int users_good(const uint8_t *rows, unsigned count)
+static uint64_t user_fault(const uint8_t *rows, unsigned count)
 {
     for (unsigned i = 1; i < count; i++)
-        for (unsigned j = 0; j < i; j++)
-            if (same_name(rows + USER_ROW * i, rows + USER_ROW * j))
-                return 0;
-    return 1;
+        if (first_user_named(rows, i) < i)
+            return fault_word(IN_USER_ROW, i, NAME_TWICE);
+    return 0;
 }
 
 /* A partition row by itself. */
-static int row_good(const uint8_t *row)
+static int in_range(const uint8_t *row)
 {
     if (row[ROW_VOLUME] > VOLUME_LAST || row[ROW_PARTITION] > PARTITION_LAST)
         return 0;
@@ -101,40 +123,83 @@ static int overlap(const uint8_t *a, const uint8_t *b)
         && first_sector(b) < first_sector(a) + sectors(a);
 }
 
-/* Two good partition rows beside each other. */
-static int pair_good(const uint8_t *a, const uint8_t *b)
+/* The first breach of two partition rows in range beside each other. */
+static unsigned pair_breach(const uint8_t *a, const uint8_t *b)
 {
     if (same_name(a, b))
-        return 0;
+        return NAME_TWICE;
     if (a[ROW_VOLUME] != b[ROW_VOLUME])
-        return 1;
-    return a[ROW_PARTITION] != b[ROW_PARTITION] && !overlap(a, b);
+        return NO_BREACH;
+    if (a[ROW_PARTITION] == b[ROW_PARTITION])
+        return NUMBER_TWICE;
+    return overlap(a, b) ? OVERLAP : NO_BREACH;
 }
 
-static int partitions_good(const uint8_t *rows, unsigned count)
+/* The first partition row whose first breach beside row i is this one, which is i
+ * where none before it has that breach. */
+static unsigned first_clash(const uint8_t *rows, unsigned i, unsigned breach)
+{
+    unsigned j = 0;
+    while (j < i && pair_breach(rows + PARTITION_ROW * j, rows + PARTITION_ROW * i) != breach)
+        j++;
+    return j;
+}
+
+/* Does partition row i clash with a row before it? */
+static int any_clash(const uint8_t *rows, unsigned i)
+{
+    for (unsigned j = 0; j < i; j++)
+        if (pair_breach(rows + PARTITION_ROW * j, rows + PARTITION_ROW * i) != NO_BREACH)
+            return 1;
+    return 0;
+}
+
+/* The first breach of a partition row, beside good rows before it. */
+static unsigned row_breach(const uint8_t *rows, unsigned i)
+{
+    unsigned breach = NAME_TWICE;
+    if (!in_range(rows + PARTITION_ROW * i))
+        return RANGE;
+    if (!any_clash(rows, i))
+        return NO_BREACH;
+    while (first_clash(rows, i, breach) == i)
+        breach++;
+    return breach;
+}
+
+static uint64_t partition_fault(const uint8_t *rows, unsigned count)
 {
     for (unsigned i = 0; i < count; i++) {
-        const uint8_t *row = rows + PARTITION_ROW * i;
-        if (!row_good(row))
-            return 0;
-        for (unsigned j = 0; j < i; j++)
-            if (!pair_good(row, rows + PARTITION_ROW * j))
-                return 0;
+        unsigned breach = row_breach(rows, i);
+        if (breach != NO_BREACH)
+            return fault_word(IN_PARTITION_ROW, i, breach);
     }
-    return 1;
+    return 0;
 }
 
-int ref_site_good(const uint8_t *site, size_t site_len)
-{
-    return header_good(site, site_len)
-        && users_good(user_rows(site), user_count(site))
-        && partitions_good(partition_rows(site), partition_count(site));
-}
-
+/* The first fault: the header, the user rows, the partition rows. */
 uint64_t ref_check_site(const uint8_t *site, size_t site_len)
 {
-    return ref_site_good(site, site_len) ? 0 : 10;
+    if (!header_good(site, site_len))
+        return fault_word(IN_HEADER, 0, RANGE);
+    uint64_t found = user_fault(user_rows(site), user_count(site));
+    if (found != 0)
+        return found;
+    return partition_fault(partition_rows(site), partition_count(site));
 }
+
+/* Beside a row whose first breach is named, no row has one that goes before it. */
+unsigned ref_earlier_row(const uint8_t *site, uint64_t fault)
+{
+    unsigned part = (unsigned)(fault >> 16 & 0xFF);
+    unsigned row = (unsigned)(fault >> 24 & 0xFF);
+    unsigned breach = (unsigned)(fault >> 32 & 0xFF);
+    if (part == IN_USER_ROW)
+        return first_user_named(user_rows(site), row);
+    return first_clash(partition_rows(site), row, breach);
+}
+
+/* ---- users, partitions, places ---- */
 
 /* Is there a user row with that name and password? */
 int ref_user_known(const uint8_t *site, const uint8_t *name, const uint8_t *password)
@@ -188,7 +253,8 @@ uint64_t ref_place(uint32_t volume, uint32_t partition,
                    uint32_t track, uint32_t sector,
                    const uint8_t *site, size_t site_len)
 {
-    if (!ref_site_good(site, site_len))
-        return 10;
+    uint64_t fault = ref_check_site(site, site_len);
+    if (fault != 0)
+        return fault;
     return ref_place_in(site, volume, partition, track, sector);
 }

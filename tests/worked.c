@@ -1,8 +1,10 @@
-/* A worked example: a login, a partition that is assigned and read from, a
- * lock that a second user wants too, an unlock. */
+/* A worked example: a site file that is checked and one that breaks a rule, a
+ * login, a partition that is assigned and read from, a lock that a second user
+ * wants too, an unlock. */
 #include "hinet.h"
 
 #include <stdio.h>
+#include <string.h>
 
 static uint8_t locks[HINET_LOCKS_BYTES];
 static uint8_t stations[HINET_STATIONS_BYTES];
@@ -68,6 +70,16 @@ static void show(const char *what, uint64_t answer)
         show_answer(answer);
 }
 
+/* Checks a site file; of a bad one it tells the first fault in words. */
+static void show_site(const char *what, const uint8_t *file, size_t len)
+{
+    uint64_t answer = hinet_check_site(file, len);
+    show(what, answer);
+    if (hinet_answer_refusal(answer) == HINET_REFUSED_SITE)
+        printf("%-26s%s %u %s\n", "", hinet_part_text(hinet_fault_part(answer)),
+               hinet_fault_row(answer), hinet_breach_text(hinet_fault_breach(answer)));
+}
+
 /* Reads from the partition that an answer to an assign tells. */
 static uint64_t read_sector(uint8_t station, uint64_t assigned, uint32_t track, uint32_t sector)
 {
@@ -80,6 +92,12 @@ static uint64_t read_sector(uint8_t station, uint64_t assigned, uint32_t track, 
 
 int main(void)
 {
+    uint8_t wrong[sizeof site];
+    memcpy(wrong, site, sizeof site);
+    wrong[40] = 7;
+    show_site("site file", site, sizeof site);
+    show_site("site file, size code 7", wrong, sizeof wrong);
+
     show("fresh tables", hinet_fresh(locks, sizeof locks, stations, sizeof stations));
     uint64_t answer = serve(HINET_NUMBER_LOGIN,
                             hinet_write_login(betty, secret, serial, 5, frame, sizeof frame));

@@ -19,16 +19,17 @@ use Rattle.frames.proofs.TableLaws.{address-long}
 use Rattle.frames.proofs.ReadLaws.{is-well}
 use Rattle.frames.proofs.FieldLaws.{address-reads}
 use Rattle.site.specs.Rules.{goodSite}
-use Rattle.site.specs.Places.{refused, placedIn, placedBy}
+use Rattle.site.specs.Places.{placedIn, placedBy}
+use Rattle.site.specs.Faults.{firstFault}
+use Rattle.site.proofs.PlaceLaws.{placed-low}
 use Rattle.who.specs.Logins.{loggedIn}
 use Rattle.master.specs.Refusals.{ANYBODY, unknown, misplaced, srcDiffers, placeRefusal, frameTests, frameRefusal, refusal}
 use Rattle.master.specs.Tables.{goodTables}
-use Rattle.master.specs.Answers.{refuses}
-use Rattle.master.specs.Effects.{unless}
-use Rattle.master.specs.Frames.{placeTold, effectOf, requestEffect, frameEffect}
+use Rattle.master.specs.Answers.{refuses, faultTold}
+use Rattle.master.specs.Frames.{placeTold, effectOf, requestEffect, refusalTold, frameEffect}
 use Rattle.master.proofs.PollLaws.{polled-below}
 use Rattle.hinet.specs.Packing.{word}
-use Rattle.hinet.specs.Entries.{addressOf, placeWord, Served}
+use Rattle.hinet.specs.Entries.{addressOf, locatedTold, placeWord, Served}
 use Rattle.hinet.specs.FrameEntries.{byteField, fieldsFor, diskOf}
 use Rattle.hinet.proofs.PlaceLaws.{fields-placed}
 
@@ -53,9 +54,9 @@ module _ (n : ℕ) (s t w : List ℕ) (good : goodTables t w ≡ true) (inside :
     own-src = rw (carries, own, eq-eqb n n refl)
 
     -- 10, 8 and 9 are all that is left to refuse it with
-    disk-refusal : refusal n f s t w ≡ placedBy s (addressIn f) .refusal
-    unfolding refusal frameRefusal frameTests placeRefusal placedBy refused
-    disk-refusal = by-test (goodSite s) (λ y. rw (good, y, well, known, in-place, own-src, carries)) (λ m. rw (good, m))
+    disk-refusal : goodSite s ≡ true → refusal n f s t w ≡ placedIn s (addressIn f) .refusal
+    unfolding refusal frameRefusal frameTests placeRefusal
+    disk-refusal y = rw (good, y, well, known, in-place, own-src, carries)
 
     disk-place : requestEffect (requestIn f) n s t w .tells ≡ placeTold (placedIn s (addressIn f))
     unfolding requestIn requestEffect effectOf plain carriesAddress
@@ -63,18 +64,22 @@ module _ (n : ℕ) (s t w : List ℕ) (good : goodTables t w ≡ true) (inside :
         by-eq (code f) WRITE (λ (e : code f ≡ WRITE). rw e) λ m.
         both carries (rw (ne-eqb (code f) READ r, ne-eqb (code f) WRITE m))
 
-    placed-good : placedBy s (addressIn f) .refusal ≡ 0 → placedBy s (addressIn f) ≡ placedIn s (addressIn f)
-    unfolding placedBy refused
-    placed-good z = by-test (goodSite s) (λ y. rw y) (λ m. absurd (omega (arith, rw m at z)))
-
-    disk-told : frameEffect n f s t w .tells ≡ placeTold (placedBy s (addressIn f))
-    unfolding frameEffect unless
-    disk-told = by-eq (placedBy s (addressIn f) .refusal) 0
-        (λ z. rw (disk-refusal ∙ z) (disk-place ∙ ap placeTold (sym (placed-good z))))
-        (λ ne. rw (disk-refusal, ne-eqb (placedBy s (addressIn f) .refusal) 0 ne) (sym (refused-place ne)))
+    placed-told : goodSite s ≡ true → frameEffect n f s t w .tells ≡ placeTold (placedIn s (addressIn f))
+    unfolding frameEffect refusalTold
+    placed-told y = by-eq (placedIn s (addressIn f) .refusal) 0
+        (λ z. rw (disk-refusal y ∙ z) disk-place)
+        (λ ne. rw (disk-refusal y, ne-eqb (placedIn s (addressIn f) .refusal) 0 ne, ne-eqb (placedIn s (addressIn f) .refusal) 10 (λ e. omega (arith, placed-low s (addressIn f)))) (sym (refused-place ne)))
       where
-        refused-place : (placedBy s (addressIn f) .refusal ≡ 0 → ⊥) → placeTold (placedBy s (addressIn f)) ≡ refuses (placedBy s (addressIn f) .refusal)
-        refused-place ne = unfold placeTold in rw (ne-eqb (placedBy s (addressIn f) .refusal) 0 ne)
+        refused-place : (placedIn s (addressIn f) .refusal ≡ 0 → ⊥) → placeTold (placedIn s (addressIn f)) ≡ refuses (placedIn s (addressIn f) .refusal)
+        refused-place ne = unfold placeTold in rw (ne-eqb (placedIn s (addressIn f) .refusal) 0 ne)
+
+    fault-told : goodSite s ≡ false → frameEffect n f s t w .tells ≡ faultTold (firstFault s)
+    unfolding frameEffect refusal refusalTold
+    fault-told m = rw (good, m)
+
+    disk-told : frameEffect n f s t w .tells ≡ locatedTold (placedBy s (addressIn f))
+    unfolding placedBy locatedTold
+    disk-told = by-test (goodSite s) (λ y. rw y (placed-told y)) (λ m. rw m (fault-told m))
 
   -- the frame of such a command with code c, from numbers
   module _ (c : ℕ) (carries : carriesAddress c ≡ true) (v p tr x : ℕ) where
@@ -95,8 +100,8 @@ module _ (n : ℕ) (s t w : List ℕ) (good : goodTables t w ≡ true) (inside :
     unfolding fieldsFor addressOf
     written-address = address-reads c (byteField n) (fieldsFor v p tr x) (omega arith)
 
-    written-told : frameEffect n f s t w .tells ≡ placeTold (placedBy s (addressOf v p tr x))
-    written-told = disk-told f written-well carries written-src ∙ ap placeTold (ap (placedBy s) written-address ∙ fields-placed s v p tr x)
+    written-told : frameEffect n f s t w .tells ≡ locatedTold (placedBy s (addressOf v p tr x))
+    written-told = disk-told f written-well carries written-src ∙ ap locatedTold (ap (placedBy s) written-address ∙ fields-placed s v p tr x)
 
     written-served : (r q : ℕ) (t′ w′ : List ℕ) → Served n f s t w r t′ w′ → Gives (placeWord s (addressOf v p tr x)) q → r ≡ q
     unfolding placeWord

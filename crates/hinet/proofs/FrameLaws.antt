@@ -9,7 +9,7 @@ use lib.Dec.{eqb, ltb}
 use lib.ListN.{length, take, drop, getD}
 use lib.Seq.{take-all, take-at}
 use borrow.Author.Tests.{ne-eqb, lt-ltb, le-ltb, ltb-true, ltb-false}
-use Rattle.rows.proofs.BoolLaws.{by-test, by-eq}
+use Rattle.rows.proofs.BoolLaws.{by-test, by-eq, either}
 pub use Rattle.rows.proofs.NumberLaws.{Bytes}
 use Rattle.rows.specs.Outcomes.{Gives}
 use Rattle.rows.specs.Rows.{part, over}
@@ -32,7 +32,6 @@ use Rattle.hinet.specs.Packing.{word, refusalIn, toldIn}
 use Rattle.hinet.specs.Entries.{addressOf}
 use Rattle.hinet.specs.FrameEntries.{byteField, fieldsFor, diskOf, namedOf, loginOf, stringOf, frameTold, Composes, readTold, readWord}
 use Rattle.hinet.proofs.PackLaws.{choice-tells, refused-choice}
-use Rattle.hinet.proofs.TellLaws.{either}
 
 -- all of a list is its part from 0 on
 pub part-all : (l : List ℕ) (n : ℕ) → length l ≡ n → part l 0 n ≡ l

@@ -2,15 +2,15 @@
 use Prim.Native.Nat.{ℕ, _%_, _≤_, _<_, _^_}
 use native.Mathlib.Omega.{arith}
 use mathlib.Core.Path.{_≡_, refl, sym, ap, _∙_}
-use mathlib.Core.Bool.{Bool, true, false}
+use mathlib.Core.Bool.{Bool, true, false, _&&_}
 use lib.Dec.{eqb}
 use borrow.Author.Tests.{eqb-false, ne-eqb}
 use mir.Val.{boolByte}
 use Rattle.rows.proofs.BoolLaws.{by-test}
 use Rattle.who.specs.Records.{flag}
-use Rattle.master.proofs.Outcomes.{no-answer}
-use Rattle.master.specs.Answers.{Told, refuses, answers, Answered, no-bytes, status-byte, assign-bytes, place-at, login-as, turn-was, frame-of, request-of, answersUnless}
-use Rattle.hinet.specs.Packing.{STATUS, ASSIGN, PLACE, LOGIN, TURN, WRITTEN, REQUEST, word, refusalIn, kindIn, bytesIn, toldIn, answeredIn, flagIn}
+use Rattle.master.proofs.Outcomes.{refused-no-answer}
+use Rattle.master.specs.Answers.{Told, refuses, refuses-site, answers, refusalNumber, Answered, no-bytes, status-byte, assign-bytes, place-at, login-as, turn-was, frame-of, request-of, answersUnless}
+use Rattle.hinet.specs.Packing.{STATUS, ASSIGN, PLACE, LOGIN, TURN, WRITTEN, FAULT, REQUEST, word, refusalIn, kindIn, bytesIn, toldIn, answeredIn, flagIn}
 
 -- a flag as a byte
 pub flag-byte : (b : Bool) → boolByte b ≡ flag b
@@ -23,9 +23,10 @@ unfolding flag
 flag-small true = omega arith
 flag-small false = omega arith
 
--- what fits a word: a refusal that is a byte and not 0, or values that fit their bytes
+-- what fits a word: a refusal that is a byte and not 0, and values that fit their bytes
 abbrev pub Tellable : Told → Type 0
 Tellable (refuses k) = (1 ≤ k) × (k < 256)
+Tellable (refuses-site part row breach) = (part < 256) × (row < 256) × (breach < 256)
 Tellable (answers no-bytes) = Unit
 Tellable (answers (status-byte status)) = status < 256
 Tellable (answers (assign-bytes size partition control volume)) = (size < 256) × (partition < 256) × (control < 256) × (volume < 256)
@@ -36,9 +37,13 @@ Tellable (answers (frame-of length)) = length < 256
 Tellable (answers (request-of code)) = code < 256
 
 -- what a word tells whose refusal is known, and the answer in one whose kind is known
-refusal-is : (x : ℕ) → (refusalIn x ≡ 0 → ⊥) → toldIn x ≡ refuses (refusalIn x)
+refusal-is : (x : ℕ) → (refusalIn x ≡ 0 → ⊥) → kindIn x ≡ 0 → toldIn x ≡ refuses (refusalIn x)
 unfolding toldIn
-refusal-is x ne = rw (ne-eqb (refusalIn x) 0 ne)
+refusal-is x ne bare = rw (ne-eqb (refusalIn x) 0 ne, bare)
+
+fault-is : (x a b c : ℕ) → refusalIn x ≡ 10 → kindIn x ≡ FAULT → bytesIn x 0 1 ≡ a → bytesIn x 1 1 ≡ b → bytesIn x 2 1 ≡ c → toldIn x ≡ refuses-site a b c
+unfolding toldIn
+fault-is x a b c r k e f g = rw (r, k, e, f, g)
 
 answer-is : (x : ℕ) → refusalIn x ≡ 0 → (a : Answered) → answeredIn x ≡ a → toldIn x ≡ answers a
 unfolding toldIn
@@ -84,14 +89,15 @@ request-is x a k e = rw (k, e)
 
 -- taking the word apart gives what was told
 pub refusal-back : (k : ℕ) → (1 ≤ k) × (k < 256) → toldIn k ≡ refuses k
-unfolding refusalIn
+unfolding refusalIn kindIn
 refusal-back k h =
     let all : k % 256 ≡ k = omega arith in
-    refusal-is k (λ z. omega arith) ∙ ap refuses all
+    refusal-is k (λ z. omega arith) (omega arith) ∙ ap refuses all
 
 pub word-back : (a : Told) → Tellable a → toldIn (word a) ≡ a
 unfolding word refusalIn kindIn bytesIn
 word-back (refuses k) h = refusal-back k h
+word-back (refuses-site a b c) h = fault-is _ a b c (omega arith) (omega arith) (omega arith) (omega arith) (omega arith)
 word-back (answers no-bytes) h = answer-is 0 refl no-bytes nothing-is
 word-back (answers (status-byte a)) h = answer-is _ (omega arith) _ (status-is _ a (omega arith) (omega arith))
 word-back (answers (assign-bytes a b c d)) h = answer-is _ (omega arith) _ (assign-is _ a b c d (omega arith) (omega arith) (omega arith) (omega arith) (omega arith))
@@ -110,14 +116,24 @@ word-back (answers (request-of a)) h = answer-is _ (omega arith) _ (request-is _
 pub one-word : (a b : Told) → Tellable a → Tellable b → word a ≡ word b → a ≡ b
 one-word a b x y e = sym (word-back a x) ∙ ap toldIn e ∙ word-back b y
 
--- a refused word is its refusal alone, and that was told
-pub refused-told : (a : Told) → Tellable a → (r : ℕ) → r ≡ word a → (refusalIn r ≡ 0 → ⊥) → (a ≡ refuses (refusalIn r)) × (r ≡ refusalIn r)
-unfolding word
-refused-told a h r e ne =
-    let told : a ≡ refuses (refusalIn r) = sym (word-back a h) ∙ ap toldIn (sym e) ∙ refusal-is r ne in
-    (told, e ∙ ap word told)
+-- a word with a refusal in it tells no answer
+told-refused : (x : ℕ) → (refusalIn x ≡ 0 → ⊥) → refusalNumber (toldIn x) ≡ 0 → ⊥
+unfolding toldIn refusalNumber
+told-refused x ne z = by-test (eqb (kindIn x) FAULT && eqb (refusalIn x) 10)
+    (λ y. let lie : _≡_ {A = ℕ} 10 0 = rw (ne-eqb (refusalIn x) 0 ne, y) at z in omega arith)
+    (λ n. ne (rw (ne-eqb (refusalIn x) 0 ne, n) at z))
 
--- the same for an entry that has one refusal, 0 for none, and else this answer
+not-answered : (a : Answered) → Tellable (answers a) → (r : ℕ) → r ≡ word (answers a) → (refusalIn r ≡ 0 → ⊥) → ⊥
+not-answered a fits r e ne = refused-no-answer (told-refused r ne) (ap toldIn e ∙ word-back (answers a) fits)
+
+-- a refused word has the number of what was told, and but for 10 it is that number alone
+pub refused-told : (a : Told) → Tellable a → (r : ℕ) → r ≡ word a → (refusalIn r ≡ 0 → ⊥) → (refusalNumber a ≡ refusalIn r) × ((refusalIn r ≡ 10 → ⊥) → r ≡ refusalIn r)
+unfolding word refusalIn refusalNumber
+refused-told (refuses k) h r e ne = (omega arith, λ bare. omega arith)
+refused-told (refuses-site a b c) h r e ne = (omega arith, λ bare. absurd (bare (omega arith)))
+refused-told (answers a) h r e ne = absurd (not-answered a h r e ne)
+
+-- an entry that has one refusal, 0 for none, and else this answer: its word tells that, and a refused one is the number alone
 module _ (k : ℕ) (small : k < 256) (a : Answered) (fits : Tellable (answers a)) (r : ℕ) (e : r ≡ word (answersUnless k a)) where
   choice-fits : Tellable (answersUnless k a)
   choice-fits = by-test (eqb k 0) (λ y. rw y fits) (λ n. rw n (omega (arith, eqb-false k 0 n)))
@@ -126,9 +142,7 @@ module _ (k : ℕ) (small : k < 256) (a : Answered) (fits : Tellable (answers a)
   choice-tells = ap toldIn e ∙ word-back (answersUnless k a) choice-fits
 
   pub refused-choice : (refusalIn r ≡ 0 → ⊥) → (r ≡ refusalIn r) × (r ≡ k) × (eqb k 0 ≡ false)
-  unfolding word
-  refused-choice ne =
-      let told = refused-told (answersUnless k a) choice-fits r e ne in
-      by-test (eqb k 0)
-      (λ y. absurd (no-answer {a = a} (sym (told .0) ∙ rw y)))
-      (λ n. (told .1, e ∙ rw n, n))
+  unfolding word refusalIn
+  refused-choice ne = by-test (eqb k 0)
+      (λ y. absurd (not-answered a fits r (e ∙ rw y) ne))
+      (λ n. let is : r ≡ k = e ∙ rw n in (omega arith, is, n))

@@ -11,6 +11,7 @@ use Rattle.rows.proofs.BoolLaws.{by-test, and-left, and-right}
 use Rattle.rows.proofs.IndexLaws.{none-from, first-below}
 use Rattle.terms.specs.declared.Address.{Address}
 use Rattle.site.specs.declared.PartitionRow.{PartitionRow}
+use Rattle.site.specs.declared.Located.the-variants.{At}
 use Rattle.site.specs.Layout.{partitions, partitionRow}
 use Rattle.site.specs.Rules.{sectors, ranged, numbered, partitionNumbered, goodSite}
 use Rattle.site.specs.Found.{indexOfNumber}
@@ -89,4 +90,4 @@ module _ (s : List ℕ) (good : goodSite s ≡ true) where
 -- the numbers as the fields of a frame hold them have the place that the numbers have
 pub fields-placed : (s : List ℕ) (v p t x : ℕ) → placedBy s (fieldsFor v p t x) ≡ placedBy s (addressOf v p t x)
 unfolding placedBy
-fields-placed s v p t x = by-test (goodSite s) (λ y. rw y (all-held s y v p t x)) (λ n. rw n)
+fields-placed s v p t x = by-test (goodSite s) (λ y. rw y (ap At (all-held s y v p t x))) (λ n. rw n)

@@ -7,7 +7,7 @@ use mathlib.Core.List.{List}
 use lib.Dec.{eqb, ltb}
 use lib.ListN.{length}
 use borrow.Author.Tests.{ne-eqb, ltb-true, ltb-false}
-use Rattle.rows.proofs.BoolLaws.{by-test, by-eq}
+use Rattle.rows.proofs.BoolLaws.{by-test, by-eq, either}
 use Rattle.terms.specs.Strings.{legal}
 use Rattle.frames.specs.Table.{LOCK, UNLOCK, CLEAR}
 use Rattle.station.specs.State.{listOf, waitOf, isFull, codeIn, askedIn}
@@ -19,7 +19,6 @@ use Rattle.hinet.specs.Packing.{word, refusalIn, toldIn}
 use Rattle.hinet.specs.StationEntries.{stepTold, Steps, Takes, Sends}
 use Rattle.hinet.specs.FrameEntries.{frameTold}
 use Rattle.hinet.proofs.PackLaws.{choice-tells, refused-choice}
-use Rattle.hinet.proofs.TellLaws.{either}
 use Rattle.master.specs.Answers.{no-bytes, frame-of}
 
 -- the word of a step is its refusal, 0 for none

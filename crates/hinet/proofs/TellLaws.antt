@@ -9,7 +9,7 @@ use lib.Dec.{eqb, ltb}
 use lib.ListN.{take, drop, getD}
 use lib.Seq.{getD-drop}
 use borrow.Author.Tests.{ltb-true, ne-eqb}
-use Rattle.rows.proofs.BoolLaws.{by-test, by-eq, and-left}
+use Rattle.rows.proofs.BoolLaws.{by-test, by-eq, and-left, either}
 use Rattle.rows.proofs.NumberLaws.{Bytes}
 use Rattle.rows.specs.Words.{any, same, zeros}
 use Rattle.rows.specs.Rows.{part}
@@ -20,11 +20,13 @@ use Rattle.terms.specs.Strings.{legal}
 use Rattle.frames.specs.declared.Request.{Request}
 use Rattle.frames.specs.declared.Command.the-variants.{Assign, Lock, Unlock}
 use Rattle.frames.specs.Requests.{plain}
-use Rattle.frames.specs.Table.{READ, WRITE, LOGIN, ASSIGN, LOCK, UNLOCK, CLEAR, LOGOUT, carriesAddress}
-use Rattle.frames.specs.Reading.{code, addressIn, namedIn, loginIn, stringRequest, requestIn, refusalOf}
+use Rattle.frames.specs.Table.{READ, WRITE, LOGIN, ASSIGN, LOCK, UNLOCK, CLEAR, LOGOUT}
+use Rattle.frames.specs.Reading.{code, addressIn, namedIn, loginIn, stringRequest, requestIn}
 use Rattle.site.specs.declared.PartitionRow.{PartitionRow}
-use Rattle.site.specs.Layout.{partitions, partitionsFrom, rowAt, partitionRow, partitionPassword}
+use Rattle.site.specs.Layout.{partitions, partitionsFrom, rowAt, partitionPassword}
 use Rattle.site.specs.Rules.{ranged, goodSite}
+use Rattle.site.specs.Faults.{firstFault, checked}
+use Rattle.site.proofs.FirstFault.{fault-small}
 use Rattle.site.specs.Found.{indexOfName, indexOfNumber}
 use Rattle.site.specs.Places.{inside, placeOn, refused, placedOn, placedIn, placedBy}
 use Rattle.site.proofs.RuleLaws.{ranged-is, site-partition}
@@ -32,28 +34,26 @@ use Rattle.site.proofs.PlaceLaws.{place-ends}
 use Rattle.who.specs.Good.{numbers}
 use Rattle.who.specs.Logins.{lowestNumber, loggedIn}
 use Rattle.locks.specs.Table.{rowCount, freeAt, isHeld, isOwn, lockStatus, unlocks, unlockStatus}
-use Rattle.master.specs.Refusals.{ANYBODY, unknown, misplaced, srcDiffers, placeRefusal, frameTests, frameRefusal, refusal}
+use Rattle.master.specs.Refusals.{ANYBODY, unknown, refusal}
+use Rattle.master.proofs.RefusalLaws.{frame-low, ten-is-site}
+use Rattle.master.specs.Answers.{Told, faultTold, turn-was, answersUnless}
 use Rattle.master.specs.Tables.{goodTables}
-use Rattle.master.specs.Frames.{placeTold, rowAnswer, assignable, assignAnswer, numberGiven, loginEffect, effectOf, requestEffect, frameEffect}
+use Rattle.master.specs.Frames.{placeTold, rowAnswer, assignable, assignAnswer, numberGiven, loginEffect, effectOf, requestEffect, refusalTold, frameEffect}
 use Rattle.master.specs.Polls.{pollRefusal, turnRefusal, dueNow, outNow, stationTurn, pollEffect, stationAt}
 use Rattle.hinet.proofs.PackLaws.{Tellable}
-use Rattle.master.specs.Effects.{Effect, unless}
+use Rattle.master.specs.Effects.{Effect, unlessTold, unless}
+use Rattle.hinet.specs.Entries.{checkedTold, siteTold, locatedTold}
 
 -- what holds of both sides of a choice
 by-cond : {A : Type 0} (P : A → Type 0) (b : Bool) {x y : A} → P x → P y → P (cond b x y)
 by-cond P true p q = p
 by-cond P false p q = q
 
-pub either : (b : Bool) (k m : ℕ) → k < 256 → m < 256 → cond b k m < 256
-either true k m l h = l
-either false k m l h = h
-
--- what fits where it is refused by a byte, and fits where it is done
-unless-fits : (k : ℕ) (t w : List ℕ) (done : Effect (List ℕ)) → k < 256 → (k ≡ 0 → Tellable (done .tells)) → Tellable (unless k t w done .tells)
-unfolding unless
-unless-fits k t w done small fits = by-eq k 0
+-- what fits where it is refused, and fits where it is done
+unless-fits : (k : ℕ) (a : Told) (t w : List ℕ) (done : Effect (List ℕ)) → ((k ≡ 0 → ⊥) → Tellable a) → (k ≡ 0 → Tellable (done .tells)) → Tellable (unlessTold k a t w done .tells)
+unless-fits k a t w done refused fits = by-eq k 0
     (λ z. rw z (fits z))
-    (λ ne. rw (ne-eqb k 0 ne) (omega arith))
+    (λ ne. rw (ne-eqb k 0 ne) (refused ne))
 
 -- the number in n bytes
 low-small : (n : ℕ) (l : List ℕ) → Bytes l → lowFirst (take n l) < 256 ^ n
@@ -87,9 +87,18 @@ module _ (s : List ℕ) where
       (λ y. rw y (place-on-fits _ a (site-partition s good _ (ltb-true _ _ y) .range)))
       (λ n. rw n (omega arith))
 
-  pub placed-fits : (a : Address) → Tellable (placeTold (placedBy s a))
-  unfolding placedBy placeTold refused
-  placed-fits a = by-test (goodSite s) (λ y. rw y (place-fits y a)) (λ n. rw n (omega arith))
+  -- the fault of a file that is not good
+  fault-fits : goodSite s ≡ false → Tellable (faultTold (firstFault s))
+  unfolding faultTold
+  fault-fits bad = fault-small s bad
+
+  pub placed-fits : (a : Address) → Tellable (locatedTold (placedBy s a))
+  unfolding placedBy locatedTold
+  placed-fits a = by-test (goodSite s) (λ y. rw y (place-fits y a)) (λ n. rw n (fault-fits n))
+
+  pub site-fits : Tellable (siteTold s)
+  unfolding siteTold checkedTold checked
+  site-fits = by-test (goodSite s) (λ y. rw y tt) (λ n. rw n (fault-fits n))
 
   -- login and assign
   login-fits : (q : Request) (product : ℕ) (t w : List ℕ) → lowFirst (q .serial) < 2 ^ 32 → Tellable (loginEffect q product s t w .tells)
@@ -125,26 +134,13 @@ unfolding unlockStatus
 unlock-fits t n x = either (unlocks t n x) 0x00 0x02 (omega arith) (omega arith)
 
 -- a refusal
-placed-small : (s : List ℕ) (a : Address) → placedIn s a .refusal < 256
-unfolding placedIn placedOn refused
-placed-small s a = by-test (ltb (indexOfNumber s (a .volume) (a .partition)) (partitions s))
-    (λ y. by-test (inside (partitionRow s (indexOfNumber s (a .volume) (a .partition))) a) (λ i. rw (y, i) (omega arith)) (λ o. rw (y, o) (omega arith)))
-    (λ m. rw m (omega arith))
-
 module _ (n : ℕ) (f s t w : List ℕ) where
   refusal-small : refusal n f s t w < 256
-  unfolding refusal frameRefusal frameTests placeRefusal
+  unfolding refusal
   refusal-small =
       either (not (goodTables t w)) 11 _ (omega arith)
       (either (not (goodSite s)) 10 _ (omega arith)
-      (either (eqb (refusalOf f) 1) 1 _ (omega arith)
-      (either (unknown (loggedIn w) n) 2 _ (omega arith)
-      (either (eqb (refusalOf f) 3) 3 _ (omega arith)
-      (either (eqb (refusalOf f) 4) 4 _ (omega arith)
-      (either (misplaced n (code f)) 5 _ (omega arith)
-      (either (eqb (refusalOf f) 6) 6 _ (omega arith)
-      (either (srcDiffers n f) 7 _ (omega arith)
-      (either (carriesAddress (code f)) (placedIn s (addressIn f) .refusal) 0 (placed-small s (addressIn f)) (omega arith))))))))))
+      (omega (arith, frame-low n f w s)))
 
   site-good : refusal n f s t w ≡ 0 → goodSite s ≡ true
   unfolding refusal
@@ -164,9 +160,15 @@ module _ (n : ℕ) (f s t w : List ℕ) where
       (by-cond P (eqb (code f) CLEAR) (omega arith)
       (by-cond P (eqb (code f) LOGOUT) tt tt)))))))
 
+  refused-fits : (refusal n f s t w ≡ 0 → ⊥) → Tellable (refusalTold s (refusal n f s t w))
+  unfolding refusalTold
+  refused-fits ne = by-eq (refusal n f s t w) 10
+      (λ (e : refusal n f s t w ≡ 10). rw e (fault-fits s (ten-is-site n f w s t e)))
+      (λ no-site. rw (ne-eqb (refusal n f s t w) 10 no-site) (omega (arith, refusal-small)))
+
   pub frame-fits : Bytes f → Bytes s → Tellable (frameEffect n f s t w .tells)
   unfolding frameEffect
-  frame-fits frame site = unless-fits (refusal n f s t w) t w _ refusal-small (λ z. answer-fits frame site (site-good z))
+  frame-fits frame site = unless-fits (refusal n f s t w) (refusalTold s (refusal n f s t w)) t w _ refused-fits (λ z. answer-fits frame site (site-good z))
 
 -- a poll turn
 pub poll-small : (n : ℕ) (h : Bool) (t w : List ℕ) → pollRefusal n h t w < 256
@@ -177,7 +179,9 @@ poll-small n h t w =
     (either (eqb n 0 || eqb n ANYBODY) 5 _ (omega arith)
     (either (h && not (dueNow (stationAt w n))) 12 0 (omega arith) (omega arith))))
 
-pub poll-fits : (n : ℕ) (h : Bool) (t w : List ℕ) → Tellable (pollEffect n h t w .tells)
-unfolding pollEffect stationTurn
-poll-fits n h t w = unless-fits (pollRefusal n h t w) t w _ (poll-small n h t w)
-    (λ z. by-test (outNow (stationAt w n) h) (λ y. rw y tt) (λ m. rw m tt))
+-- what a turn tells: its refusal, or was it due and did it end in a logout
+pub poll-choice : (n : ℕ) (h : Bool) (t w : List ℕ) → pollEffect n h t w .tells ≡ answersUnless (pollRefusal n h t w) (turn-was (dueNow (stationAt w n)) (outNow (stationAt w n) h))
+unfolding pollEffect unless stationTurn
+poll-choice n h t w = by-test (eqb (pollRefusal n h t w) 0)
+    (λ y. by-test (outNow (stationAt w n) h) (λ o. rw (y, o)) (λ m. rw (y, m)))
+    (λ n. rw n)

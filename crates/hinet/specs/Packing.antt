@@ -1,9 +1,10 @@
--- The word that an entry returns: bits 0 to 7 the refusal, bits 8 to 15 the kind of answer, bits 16 to 63 its bytes, lowest first.
+-- The word that an entry returns: bits 0 to 7 the refusal, bits 8 to 15 the kind of answer, bits 16 to 63 its bytes, lowest first. Refusal
+-- 10 alone has something above bit 7: the fault's kind, and part, row and breach.
 use Prim.Native.Nat.{ℕ, _+_, _*_, _/_, _%_, _^_}
-use mathlib.Core.Bool.{Bool, cond}
+use mathlib.Core.Bool.{Bool, cond, _&&_}
 use lib.Dec.{eqb}
 use Rattle.who.specs.Records.{flag}
-use Rattle.master.specs.Answers.{Told, refuses, answers, Answered, no-bytes, status-byte, assign-bytes, place-at, login-as, turn-was, frame-of, request-of}
+use Rattle.master.specs.Answers.{Told, refuses, refuses-site, answers, Answered, no-bytes, status-byte, assign-bytes, place-at, login-as, turn-was, frame-of, request-of}
 
 -- the kinds of answer; an entry with nothing more to tell returns 0
 abbrev pub STATUS : ℕ
@@ -24,12 +25,16 @@ TURN = 5
 abbrev pub WRITTEN : ℕ
 WRITTEN = 6
 
+abbrev pub FAULT : ℕ
+FAULT = 7
+
 abbrev pub REQUEST : ℕ
 REQUEST = 13
 
 -- a sector and a serial take four bytes, every other value takes one
 unfoldable pub word : Told → ℕ
 word (refuses k) = k
+word (refuses-site part row breach) = 10 + FAULT * 2 ^ 8 + part * 2 ^ 16 + row * 2 ^ 24 + breach * 2 ^ 32
 word (answers no-bytes) = 0
 word (answers (status-byte status)) = STATUS * 2 ^ 8 + status * 2 ^ 16
 word (answers (assign-bytes size partition control volume)) =
@@ -65,5 +70,9 @@ answeredIn x =
     (cond (eqb (kindIn x) REQUEST) (request-of (bytesIn x 0 1))
     no-bytes))))))
 
+-- what a word tells: an answer where nothing is refused; a fault, which is refusal 10 with that kind; or the refusal alone
 unfoldable pub toldIn : ℕ → Told
-toldIn x = cond (eqb (refusalIn x) 0) (answers (answeredIn x)) (refuses (refusalIn x))
+toldIn x =
+    cond (eqb (refusalIn x) 0) (answers (answeredIn x))
+    (cond (eqb (kindIn x) FAULT && eqb (refusalIn x) 10) (refuses-site (bytesIn x 0 1) (bytesIn x 1 1) (bytesIn x 2 1))
+    (refuses (refusalIn x)))

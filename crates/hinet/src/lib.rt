@@ -29,15 +29,15 @@ pub extern "C" fn hinet_check_tables(locks: &[u8], stations: &[u8]) -> u64
     }
 }
 
-// 10, or 0 where the site file is good.
+// 10 with the first fault, or 0 where the site file is good.
 #[no_mangle]
 pub extern "C" fn hinet_check_site(site: &[u8]) -> u64
     ensures { λ r. ⌜ Gives (siteWord (now (site .entry))) r ⌝ }
 {
-    if site::is_good(site) { 0 } else { 10 }
+    packing::pack_checked(site::check(site))
 }
 
-// One frame at the number polled: 11, 10, 1 to 9, or what the frame does.
+// One frame at the number polled: 11, 10 with the first fault, 1 to 9, or what the frame does.
 #[no_mangle]
 pub extern "C" fn hinet_frame(
     number: u32,
@@ -67,7 +67,7 @@ pub extern "C" fn hinet_due(number: u32, locks: &[u8], stations: &[u8]) -> u64
     packing::pack_turn(master::due(number, locks, stations))
 }
 
-// The place of an address: 10, 8, 9, or volume and sector. A volume or partition above 255 names no row.
+// The place of an address: 10 with the first fault, 8, 9, or volume and sector. A volume or partition above 255 names no row.
 #[no_mangle]
 pub extern "C" fn hinet_place(
     volume: u32,

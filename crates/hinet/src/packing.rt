@@ -1,11 +1,17 @@
 // An answer as one word (specs/Packing.antt).
 use master::Answer;
 use master::Turned;
+use site::Breach;
+use site::Checked;
+use site::Fault;
+use site::Located;
 use site::Placed;
 ghost use mathlib.Core.Path.{_≡_};
-ghost use Rattle.master.specs.Answers.{answers, request-of, told, turnTold};
+ghost use Rattle.site.specs.Faults.{breachNumber};
+ghost use Rattle.master.specs.Answers.{refuses-site, answers, request-of, faultTold, told, turnTold};
 ghost use Rattle.master.specs.Frames.{placeTold};
 ghost use Rattle.hinet.specs.Packing.{word};
+ghost use Rattle.hinet.specs.Entries.{checkedTold, locatedTold};
 ghost use Rattle.hinet.specs.FrameEntries.{frameTold};
 ghost use Rattle.hinet.specs.StationEntries.{stepTold};
 
@@ -22,7 +28,12 @@ const TURN: u64 = 0x500;
 
 const WRITTEN: u64 = 0x600;
 
+const FAULT: u64 = 0x700;
+
 const REQUEST: u64 = 0xD00;
+
+// The refusal of a site file, beside which its fault stands.
+const SITE: u64 = 10;
 
 // Where the bytes of an answer stand.
 const BYTE_0: u64 = 0x1_0000;
@@ -33,12 +44,54 @@ const BYTE_2: u64 = 0x1_0000_0000;
 
 const BYTE_3: u64 = 0x100_0000_0000;
 
+// 1 range, 2 repeated name, 3 repeated volume and number, 4 overlap.
+fn breach_number(breach: Breach) -> u8
+    ensures { λ r. ⌜ r ≡ breachNumber breach ⌝ }
+{
+    match breach {
+        Breach::Range => 1,
+        Breach::Name => 2,
+        Breach::Number => 3,
+        Breach::Overlap => 4,
+    }
+}
+
+// Refusal 10 with part, row and breach.
+fn pack_site(part: u8, row: u8, breach: u8) -> u64
+    ensures { λ r. ⌜ r ≡ word (refuses-site part row breach) ⌝ }
+{
+    let front = SITE + FAULT + part as u64 * BYTE_0;
+    front + row as u64 * BYTE_1 + breach as u64 * BYTE_2
+}
+
+// A fault: its part is 0 for the header, 1 for a user row, 2 for a partition row.
+fn pack_fault(fault: Fault) -> u64
+    ensures { λ r. ⌜ r ≡ word (faultTold fault) ⌝ }
+{
+    match fault {
+        Fault::InHeader => pack_site(0, 0, breach_number(Breach::Range)),
+        Fault::InUser(row) => pack_site(1, row, breach_number(Breach::Name)),
+        Fault::InPartition(row, breach) => pack_site(2, row, breach_number(breach)),
+    }
+}
+
+// What the check of a site file gave.
+pub fn pack_checked(checked: Checked) -> u64
+    ensures { λ r. ⌜ r ≡ word (checkedTold checked) ⌝ }
+{
+    match checked {
+        Checked::Good => 0,
+        Checked::Faulty(fault) => pack_fault(fault),
+    }
+}
+
 // The answer to a frame.
 pub fn pack(a: Answer) -> u64
     ensures { λ r. ⌜ r ≡ word (told a) ⌝ }
 {
     match a {
         Answer::Refused(k) => k as u64,
+        Answer::Faulty(fault) => pack_fault(fault),
         Answer::Nothing => 0,
         Answer::Status(status) => STATUS + status as u64 * BYTE_0,
         Answer::Assigned {
@@ -60,7 +113,7 @@ pub fn pack(a: Answer) -> u64
 }
 
 // The place of an address, or its refusal.
-pub fn pack_place(placed: Placed) -> u64
+fn pack_placed(placed: Placed) -> u64
     ensures { λ r. ⌜ r ≡ word (placeTold placed) ⌝ }
 {
     let refusal = placed.refusal;
@@ -69,6 +122,16 @@ pub fn pack_place(placed: Placed) -> u64
     }
     let at = placed.place;
     pack(Answer::At(at))
+}
+
+// The place of an address in any file, or the file's fault.
+pub fn pack_place(located: Located) -> u64
+    ensures { λ r. ⌜ r ≡ word (locatedTold located) ⌝ }
+{
+    match located {
+        Located::Faulty(fault) => pack_fault(fault),
+        Located::At(placed) => pack_placed(placed),
+    }
 }
 
 // The answer to a poll turn.

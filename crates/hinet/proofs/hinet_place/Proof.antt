@@ -1,8 +1,7 @@
 use Rattle.hinet.proofs.PlaceLaws.{fields-placed}
-use Rattle.hinet.specs.Entries.{placeWord}
+use Rattle.hinet.specs.Entries.{locatedTold, placeWord}
 use Rattle.hinet.specs.Packing.{word}
-use Rattle.master.specs.Frames.{placeTold}
-use Rattle.site.specs.declared.Placed.{Placed}
+use Rattle.site.specs.declared.Located.{Located}
 use Rattle.site.specs.Places.{placedBy}
 use mathlib.Core.Path.{ap, _∙_}
 use borrow.Author.Needs.{needs}
@@ -12,7 +11,7 @@ use Rattle.hinet.proofs.hinet_place.Tie as tie
 returns : tie.Need-returns
 unfolding placeWord
 returns c = record {
-  answer = c .pack-place .ensures ∙ ap (λ (r : Placed). word (placeTold r)) (c .before .place .ensures .answer ∙ ap (placedBy _) (c .before .before .address-of .ensures) ∙ fields-placed _ _ _ _ _);
+  answer = c .pack-place .ensures ∙ ap (λ (r : Located). word (locatedTold r)) (c .before .place .ensures .answer ∙ ap (placedBy _) (c .before .before .address-of .ensures) ∙ fields-placed _ _ _ _ _);
 }
 
 pub hinet-place-spec : {M : Type 1} → statement M
