@@ -8,12 +8,9 @@ use libc::STDOUT_FILENO;
 ghost use mathlib.Core.Path.{_≡_};
 ghost use mathlib.Core.Bool.{true};
 ghost use Prim.Native.Nat.{_+_, _*_, _^_, _≤_, _<_};
-ghost use lib.ListN.{length, take};
+ghost use lib.ListN.{length};
 ghost use Rattle.io.specs.Counts.{Counts};
 ghost use Rattle.session.specs.Session.{between, Takes};
-
-// One byte more than the longest good site file, so that a longer one is seen to be too long.
-const SITE: usize = 3593;
 
 // A proved loop has to end, and nothing says that an input does. No run takes so many blocks.
 const TURNS: u64 = 1125899906842624;
@@ -25,12 +22,6 @@ struct Turn {
     more: bool,
 }
 
-// After a read: where the input then ends, and whether it could not be read.
-struct Reach {
-    end: usize,
-    failed: bool,
-}
-
 // Writes the text to standard output, and answers whether it could. Where not, a line on standard error says why.
 fn say(text: &[u8]) -> bool {
     let written = io::write_all(STDOUT_FILENO, text);
@@ -40,58 +31,15 @@ fn say(text: &[u8]) -> bool {
     written
 }
 
-// Reads behind what is kept, where there is room. Where that fails, a line on standard error says why, and names the
-// input.
-fn read_more(fd: i32, name: &[u8], input: &mut [u8], kept: usize) -> Reach
-    requires { ⌜ kept < length (now input) ⌝ }
-    ensures { λ r. ⌜ (kept ≤ r .end) × (r .end ≤ length (now (input .entry))) × (take kept (now (input .exit)) ≡ take kept (now (input .entry))) ⌝ }
-{
-    let got = libc::read(fd, &mut input[kept..]);
-    if got < 0 {
-        os::fail(name);
-        return Reach {
-            end: kept,
-            failed: true,
-        };
-    }
-    let more = io::count(got, &input[kept..]);
-    Reach {
-        end: kept + more,
-        failed: false,
-    }
-}
-
-// Reads the file to its end, or until there is no more room, and answers its length, or 0 where it cannot be read.
-fn read_file(fd: i32, file: &mut [u8]) -> usize
-    ensures { λ r. ⌜ Counts r (now (file .exit)) ⌝ }
-{
-    let mut n: usize = 0;
-    while n < file.len() {
-        let reach = read_more(fd, b"session: site.bin", file, n);
-        let end = reach.end;
-        if reach.failed {
-            return 0;
-        }
-        if end == n {
-            return n;
-        }
-        n = end;
-    }
-    n
-}
-
 // Reads site.bin and answers its length, or 0, which no good file has, where it is missing or cannot be read.
 fn read_site(file: &mut [u8]) -> usize
     ensures { λ r. ⌜ Counts r (now (file .exit)) ⌝ }
 {
-    let fd = os::open_read(b"site.bin");
-    if fd < 0 {
-        os::fail(b"session: site.bin");
+    let reach = files::read_file(b"site.bin", b"session: site.bin", file);
+    if reach.failed {
         return 0;
     }
-    let n = read_file(fd, file);
-    libc::close(fd);
-    n
+    reach.end
 }
 
 // Nothing more was read. Where the input has ended, what is kept of it is a record cut short.
@@ -115,7 +63,7 @@ fn take_turn(
     ensures { λ r. ⌜ (r .kept ≤ 256) × (r .index ≤ index + length (now (input .entry))) ⌝ }
     ensures { λ r. ⌜ (r .more ≡ true → Takes (now (site .entry)) (between (now (input .entry)) kept index (now (locks .entry)) (now (records .entry))) (between (now (input .exit)) (r .kept) (r .index) (now (locks .exit)) (now (records .exit)))) ⌝ }
 {
-    let reach = read_more(STDIN_FILENO, b"session: standard input", input, kept);
+    let reach = files::read_more(STDIN_FILENO, b"session: standard input", input, kept);
     let end = reach.end;
     if end == kept {
         end_input(kept, reach.failed);
@@ -175,7 +123,7 @@ fn play_records(site: &[u8]) {
 }
 
 fn main() {
-    let mut file = [0u8; SITE];
+    let mut file = [0u8; site::ROOM];
     let n = read_site(&mut file);
     if !site::is_good(&file[..n]) {
         say(b"site 10\n");

@@ -2,8 +2,8 @@ use denote.Ref.{now}
 use native.Mathlib.Omega.{arith}
 use lib.Seq.{length-take-le, take-at}
 use borrow.Author.Needs.{needs}
-use Rattle.session.proofs.read_more.Statement.{statement}
-use Rattle.session.proofs.read_more.Tie as tie
+use Rattle.files.proofs.read_more.Statement.{statement}
+use Rattle.files.proofs.read_more.Tie as tie
 
 returns : tie.Need-returns
 returns c = let a = c .before .before .before .before .before .before .before .before .args in
