@@ -1,0 +1,177 @@
+// The commands of ./hinet. A program has no status of its own: where its first argument is --status, it writes one
+// digit to descriptor 3 at its end. What cannot be read or written is told on standard error.
+mod text;
+mod words;
+
+use libc::STDERR_FILENO;
+use libc::STDOUT_FILENO;
+ghost use Rattle.io.specs.Counts.{Counts};
+
+// The statuses, as digits: all is good, a file breaks a rule, wrong use, something could not be read or written. Of two
+// the larger counts.
+const GOOD: u8 = b'0';
+
+const BROKEN: u8 = b'1';
+
+const MISUSED: u8 = b'2';
+
+const FAILED: u8 = b'3';
+
+// Where the status goes.
+const STATUS_FILENO: i32 = 3;
+
+// After a file: its status, and whether there is more to do.
+struct After {
+    status: u8,
+    more: bool,
+}
+
+// Writes a line to standard output; the status is then the one given. Where it cannot, a line on standard error says
+// why, and there is no more to do.
+fn say(line: &[u8], status: u8) -> After {
+    let written = io::write_all(STDOUT_FILENO, line);
+    if !written {
+        os::fail(b"hinet: standard output");
+        return After {
+            status: FAILED,
+            more: false,
+        };
+    }
+    After { status, more: true }
+}
+
+// Wrong use: a line on standard error says what was wrong.
+fn misused(what: &[u8], word: &[u8]) -> u8 {
+    io::write_all(STDERR_FILENO, b"hinet: ");
+    io::write_all(STDERR_FILENO, what);
+    io::write_all(STDERR_FILENO, word);
+    io::write_all(STDERR_FILENO, b"\n");
+    MISUSED
+}
+
+// The status of one file that was read.
+fn status_of(good: bool) -> u8 {
+    if good { GOOD } else { BROKEN }
+}
+
+// Checks the bytes of a site file and prints the line for it.
+fn check_bytes(name: &[u8], file: &[u8]) -> After {
+    let mut line = [0u8; text::LINE];
+    let a = text::append(&mut line, 0, name);
+    let verdict = words::append_verdict(&mut line, a, file);
+    let b = verdict.end;
+    let end = text::append(&mut line, b, b"\n");
+    say(&line[..end], status_of(verdict.good))
+}
+
+// A file could not be read, which was told.
+fn unread() -> After {
+    After {
+        status: FAILED,
+        more: true,
+    }
+}
+
+// Puts down how a file is named where it cannot be read, and answers the length of that.
+fn name_file(what: &mut [u8], name: &[u8]) -> usize
+    ensures { λ r. ⌜ Counts r (now (what .exit)) ⌝ }
+{
+    let a = text::append(what, 0, b"hinet: ");
+    text::append(what, a, name)
+}
+
+// Checks the site file of this name.
+fn check_named(name: &[u8]) -> After {
+    let mut file = [0u8; site::ROOM];
+    let mut what = [0u8; text::LINE];
+    let n = name_file(&mut what, name);
+    let reach = files::read_file(name, &what[..n], &mut file);
+    if reach.failed {
+        return unread();
+    }
+    let end = reach.end;
+    check_bytes(name, &file[..end])
+}
+
+// Of a name that is too long the first bytes are told, with the system's words for it.
+fn refuse_name(name: &[u8]) -> After {
+    let mut what = [0u8; text::LINE];
+    let n = name_file(&mut what, name);
+    os::fail(&what[..n]);
+    unread()
+}
+
+// Checks the site file that argument i names.
+fn check_argument(i: usize) -> After {
+    let mut name = [0u8; text::NAME];
+    let n = os::arg(i, &mut name);
+    if os::errno() != 0 {
+        return refuse_name(&name);
+    }
+    check_named(&name[..n])
+}
+
+// The larger of two statuses.
+fn worse(a: u8, b: u8) -> u8 {
+    if a < b { b } else { a }
+}
+
+// Checks the site files that the arguments from `first` on name.
+fn check_files(first: usize, count: usize) -> u8 {
+    let mut status = GOOD;
+    let mut i = first;
+    while i < count {
+        let told = check_argument(i);
+        status = worse(status, told.status);
+        if !told.more {
+            return status;
+        }
+        i += 1;
+    }
+    status
+}
+
+// The command check-site: what follows it are its files.
+fn check_site(first: usize, count: usize) -> u8 {
+    if count <= first {
+        return misused(b"check-site: no FILE", b"");
+    }
+    check_files(first, count)
+}
+
+// Runs the command that argument i is.
+fn run(i: usize, count: usize) -> u8 {
+    if count <= i {
+        return misused(b"no command", b"");
+    }
+    let mut word = [0u8; text::NAME];
+    let n = os::arg(i, &mut word);
+    if rows::is_same(&word[..n], b"check-site") {
+        return check_site(i + 1, count);
+    }
+    misused(b"unknown command: ", &word[..n])
+}
+
+// Argument 1 is --status.
+fn asks_status() -> bool {
+    let mut word = [0u8; 8];
+    let n = os::arg(1, &mut word);
+    rows::is_same(&word[..n], b"--status")
+}
+
+// Writes the status.
+fn tell_status(status: u8) {
+    let digit = [status];
+    if !io::write_all(STATUS_FILENO, &digit) {
+        os::fail(b"hinet: descriptor 3");
+    }
+}
+
+fn main() {
+    let count = os::arg_count();
+    if asks_status() {
+        tell_status(run(2, count));
+    } else {
+        run(1, count);
+    }
+}

@@ -1,0 +1,55 @@
+// Text put together in lent bytes, so that a line is written at once. Each function puts its text down behind the first
+// `at` bytes and answers where it ends.
+ghost use Prim.Native.Nat.{_≤_};
+ghost use lib.ListN.{length};
+ghost use Rattle.io.specs.Counts.{Counts};
+
+// The longest name of a file, and room for a line: that name and the words about it, which are fewer than 200.
+pub const NAME: usize = 4095;
+
+pub const LINE: usize = 4295;
+
+// The text, or nothing where it does not fit.
+pub fn append(line: &mut [u8], at: usize, text: &[u8]) -> usize
+    requires { ⌜ at ≤ length (now line) ⌝ }
+    ensures { λ r. ⌜ Counts r (now (line .exit)) ⌝ }
+{
+    if line.len() - at < text.len() {
+        return at;
+    }
+    rows::put(line, at, text);
+    at + text.len()
+}
+
+// A number in decimal.
+pub fn append_number(line: &mut [u8], at: usize, n: u64) -> usize
+    requires { ⌜ at ≤ length (now line) ⌝ }
+    ensures { λ r. ⌜ Counts r (now (line .exit)) ⌝ }
+{
+    let mut digits = [0u8; 20];
+    let k = io::decimal(n, &mut digits);
+    append(line, at, &digits[..k])
+}
+
+// Words and a number.
+pub fn append_both(line: &mut [u8], at: usize, words: &[u8], n: u64) -> usize
+    requires { ⌜ at ≤ length (now line) ⌝ }
+    ensures { λ r. ⌜ Counts r (now (line .exit)) ⌝ }
+{
+    let a = append(line, at, words);
+    append_number(line, a, n)
+}
+
+// How many there are of a thing: one is told in the singular.
+pub fn append_count(line: &mut [u8], at: usize, n: u64, thing: &[u8]) -> usize
+    requires { ⌜ at ≤ length (now line) ⌝ }
+    ensures { λ r. ⌜ Counts r (now (line .exit)) ⌝ }
+{
+    let a = append_number(line, at, n);
+    let b = append(line, a, b" ");
+    let c = append(line, b, thing);
+    if n == 1 {
+        return c;
+    }
+    append(line, c, b"s")
+}
