@@ -135,6 +135,10 @@ module _ (w : List ℕ) (sized : length w ≡ 18 * numbers) (n : ℕ) (b : n < n
   unfolding afterLogout
   logout-logged = set-logged w sized n b nobody refl
 
+  pub logout-same : row 18 (afterLogout w n) n ≡ nobody
+  unfolding afterLogout
+  logout-same = set-same w sized n b nobody refl
+
   pub logout-other : (m : ℕ) → (m ≡ n → ⊥) → row 18 (afterLogout w n) m ≡ row 18 w m
   unfolding afterLogout
   logout-other = set-other w sized n b nobody refl
@@ -154,7 +158,7 @@ module _ (w : List ℕ) where
     unfolding lowestNumber
     lowest-first = ap (first (freeNumber w)) (counted w sized)
 
-    below-lowest : (m : ℕ) → 1 ≤ m → m < lowestNumber w → loggedIn w m ≡ true
+    pub below-lowest : (m : ℕ) → 1 ≤ m → m < lowestNumber w → loggedIn w m ≡ true
     below-lowest m l b = taken m l (first-least (freeNumber w) numbers m (rw lowest-first at b))
 
     -- where there is one, it is free and every number before it is taken

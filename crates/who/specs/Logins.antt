@@ -4,10 +4,10 @@ use mathlib.Core.Bool.{Bool, true, not, _&&_}
 use mathlib.Core.List.{List, _++_}
 use lib.Dec.{eqb, leb, ltb}
 use lib.ListN.{length, getD}
-use Rattle.rows.specs.Words.{first}
-use Rattle.rows.specs.Rows.{setRow, copies}
+use Rattle.rows.specs.Words.{first, same}
+use Rattle.rows.specs.Rows.{row, setRow, copies}
 use Rattle.who.specs.declared.Station.{Station}
-use Rattle.who.specs.Records.{bytesOf, nobody, localUser}
+use Rattle.who.specs.Records.{bytesOf, stationOf, nobody, localUser}
 
 -- how many whole records there are
 abbrev pub recordCount : List ℕ → ℕ
@@ -16,6 +16,10 @@ recordCount w = length w / 18
 -- number n is logged in
 unfoldable pub loggedIn : List ℕ → ℕ → Bool
 loggedIn w n = ltb n (recordCount w) && eqb (getD w (18 * n) 0) 1
+
+-- number n, from 1 on, is logged in with this serial
+unfoldable pub hasSerial : List ℕ → List ℕ → ℕ → Bool
+hasSerial w serial n = (leb 1 n && loggedIn w n) && same (stationOf (row 18 w n) .serial) serial
 
 -- a number that a login may give
 unfoldable pub freeNumber : List ℕ → ℕ → Bool

@@ -9,7 +9,7 @@ ghost use Rattle.rows.specs.Rows.{row, setRow};
 ghost use Rattle.rows.specs.Outcomes.{Gives};
 ghost use Rattle.who.specs.Records.{flag, bytesOf, stationOf};
 ghost use Rattle.who.specs.Good.{goodCounts, plain, goodStation, numbers, goodRecords};
-ghost use Rattle.who.specs.Logins.{loggedIn, freeNumber, lowestNumber, afterLogout, freshRecords};
+ghost use Rattle.who.specs.Logins.{loggedIn, hasSerial, freeNumber, lowestNumber, afterLogout, freshRecords};
 ghost use Rattle.who.specs.Turns.{isDue, turnOf};
 ghost use mathlib.Core.Bool.{true};
 
@@ -138,6 +138,18 @@ pub fn lowest_number(records: &[u8]) -> usize
         n += 1;
     }
     count
+}
+
+// Number n, from 1 on, is logged in with this serial.
+pub fn has_serial(records: &[u8], n: usize, serial: [u8; 4]) -> bool
+    ensures { λ r. ⌜ Gives (hasSerial (now (records .entry)) serial n) r ⌝ }
+{
+    if 1 <= n {
+        if is_in(records, n) {
+            return rows::is_same(rows::part(records, RECORD * n + 12, 4), &serial);
+        }
+    }
+    false
 }
 
 // Misses and slow turns are in range.
