@@ -24,7 +24,7 @@ use Rattle.master.proofs.Outcomes.{told-number}
 use Rattle.master.proofs.RefusalLaws.{ten-is-site}
 use Rattle.master.specs.Answers.{refusalNumber, faultTold, turn-was, answersUnless}
 use Rattle.master.specs.Refusals.{refusal}
-use Rattle.master.specs.Frames.{placeTold, rowAnswer, assignable, assignAnswer, numberGiven, loginEffect, effectOf, requestEffect, refusalTold, frameEffect}
+use Rattle.master.specs.Frames.{placeTold, rowAnswer, assignable, assignAnswer, logoutEffect, oldLogouts, numberGiven, loginEffect, effectOf, requestEffect, refusalTold, frameEffect}
 use Rattle.hinet.specs.Packing.{word, refusalIn, toldIn}
 use Rattle.hinet.specs.Entries.{checkedTold, siteTold, siteWord, locatedTold, placeWord, Tells, Freshened, Served, isHeard, Polled, dueWord}
 use Rattle.hinet.proofs.PackLaws.{Tellable, word-back, refused-told, choice-tells, refused-choice}
@@ -93,13 +93,18 @@ refused-fresh-untouched t w r t′ w′ done ne = by-test (sized t w)
     (λ m. (done .answer ∙ rw m, done .locks ∙ rw m, done .stations ∙ rw m))
 
 module _ (n : ℕ) (f s t w : List ℕ) where
+  -- a login that is served is answered
+  login-answers : (q : Request) (product : ℕ) (t w : List ℕ) → refusalNumber (loginEffect q product s t w .tells) ≡ 0
+  unfolding loginEffect refusalNumber
+  login-answers q product t w = by-test (eqb (numberGiven w) 0) (λ y. rw y) (λ m. rw m)
+
   -- a command that is refused changes nothing, and is refused with 8 or 9
   keeps : (c : Command) (q : Request) → (refusalNumber (effectOf c q n s t w .tells) ≡ 0 → ⊥) → (effectOf c q n s t w .locks ≡ t) × (effectOf c q n s t w .records ≡ w)
-  unfolding effectOf loginEffect refusalNumber
+  unfolding effectOf logoutEffect refusalNumber
   keeps Acknowledge q ne = (refl, refl)
   keeps (Read src a) q ne = (refl, refl)
   keeps (Write src a) q ne = (refl, refl)
-  keeps (Login product) q ne = absurd (by-test (eqb (numberGiven w) 0) (λ y. ne (rw y)) (λ m. ne (rw m)))
+  keeps (Login product) q ne = absurd (ne (login-answers q product _ _))
   keeps Assign q ne = (refl, refl)
   keeps Lock q ne = absurd (ne refl)
   keeps Unlock q ne = absurd (ne refl)
@@ -107,11 +112,11 @@ module _ (n : ℕ) (f s t w : List ℕ) where
   keeps (Logout src) q ne = absurd (ne refl)
 
   low : (c : Command) (q : Request) → refusalNumber (effectOf c q n s t w .tells) < 10
-  unfolding effectOf loginEffect assignAnswer rowAnswer refusalNumber
+  unfolding effectOf logoutEffect assignAnswer rowAnswer refusalNumber
   low Acknowledge q = omega arith
   low (Read src a) q = place-low (placedIn s a) (placed-low s a)
   low (Write src a) q = place-low (placedIn s a) (placed-low s a)
-  low (Login product) q = by-test (eqb (numberGiven w) 0) (λ y. rw y (omega arith)) (λ m. rw m (omega arith))
+  low (Login product) q = omega (arith, login-answers q product (oldLogouts (q .serial) t w .locks) (oldLogouts (q .serial) t w .records))
   low Assign q = by-test (assignable q s) (λ y. rw y (omega arith)) (λ m. rw m (omega arith))
   low Lock q = omega arith
   low Unlock q = omega arith

@@ -38,7 +38,7 @@ use Rattle.master.specs.Refusals.{ANYBODY, unknown, refusal}
 use Rattle.master.proofs.RefusalLaws.{frame-low, ten-is-site}
 use Rattle.master.specs.Answers.{Told, faultTold, turn-was, answersUnless}
 use Rattle.master.specs.Tables.{goodTables}
-use Rattle.master.specs.Frames.{placeTold, rowAnswer, assignable, assignAnswer, numberGiven, loginEffect, effectOf, requestEffect, refusalTold, frameEffect}
+use Rattle.master.specs.Frames.{placeTold, rowAnswer, assignable, assignAnswer, logoutEffect, numberGiven, loginEffect, effectOf, requestEffect, refusalTold, frameEffect}
 use Rattle.master.specs.Polls.{pollRefusal, turnRefusal, dueNow, outNow, stationTurn, pollEffect, stationAt}
 use Rattle.hinet.proofs.PackLaws.{Tellable}
 use Rattle.master.specs.Effects.{Effect, unlessTold, unless}
@@ -148,12 +148,12 @@ module _ (n : ℕ) (f s t w : List ℕ) where
 
   -- what each command is answered
   answer-fits : Bytes f → Bytes s → goodSite s ≡ true → Tellable (requestEffect (requestIn f) n s t w .tells)
-  unfolding requestIn namedIn loginIn stringRequest plain requestEffect effectOf
+  unfolding requestIn namedIn loginIn stringRequest plain requestEffect effectOf logoutEffect
   answer-fits frame site good =
       let P : Request → Type 0 = λ q. Tellable (requestEffect q n s t w .tells) in
       by-cond P (eqb (code f) READ) (place-fits s good (addressIn f))
       (by-cond P (eqb (code f) WRITE) (place-fits s good (addressIn f))
-      (by-cond P (eqb (code f) LOGIN) (login-fits s (loginIn f) (getD f 19 0) t w (part-small f 15 4 frame))
+      (by-cond P (eqb (code f) LOGIN) (login-fits s (loginIn f) (getD f 19 0) _ _ (part-small f 15 4 frame))
       (by-cond P (eqb (code f) ASSIGN) (assign-fits s good site (namedIn Assign f))
       (by-cond P (eqb (code f) LOCK) (lock-fits t n (stringRequest Lock f .string))
       (by-cond P (eqb (code f) UNLOCK) (unlock-fits t n (stringRequest Unlock f .string))

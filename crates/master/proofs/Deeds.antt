@@ -1,15 +1,14 @@
 -- What a frame can do to good tables, as one view: a match on it fixes the answer and both tables together.
 use Prim.Native.Nat.{ℕ}
 use native.Mathlib.Omega.{arith}
-use mathlib.Core.Path.{_≡_, refl, sym, _∙_}
+use mathlib.Core.Path.{_≡_, refl, sym, ap, _∙_}
 use mathlib.Core.Bool.{Bool, true, false, cond, not, _||_}
 use mathlib.Core.List.{List}
 use lib.Dec.{eqb}
 use lib.ListN.{length, getD}
 use borrow.Author.Tests.{eqb-true, eq-eqb, ne-eqb, not-false}
-use Rattle.rows.proofs.BoolLaws.{by-test, by-eq, both, and-left, and-right}
+use Rattle.rows.proofs.BoolLaws.{by-test, by-eq, both}
 use Rattle.rows.proofs.RowLaws.{length-part}
-use Rattle.rows.specs.Numbers.{lowFirst}
 use Rattle.terms.specs.declared.LockString.{LockString}
 use Rattle.frames.specs.declared.Request.{Request}
 use Rattle.frames.specs.Table.{LOGIN, LOCK, UNLOCK, CLEAR, LOGOUT, frameTable, lengthIn, frameLength}
@@ -20,55 +19,32 @@ use Rattle.frames.proofs.TableLaws.{Code, acknowledge, read, write, login, assi
 use Rattle.frames.proofs.ReadLaws.{well-is, well-long}
 use Rattle.site.specs.Rules.{goodSite}
 use Rattle.site.specs.declared.Placed.{Placed}
-use Rattle.who.specs.Good.{goodRecords}
-use Rattle.who.specs.Logins.{loggedIn, loggedInAs, afterLogin, afterLogout}
+use Rattle.who.specs.Logins.{loggedIn}
 use Rattle.who.proofs.WhoLaws.{good-is}
-use Rattle.locks.specs.Good.{goodLocks}
 use Rattle.locks.specs.Table.{lockStatus, lockTable, unlockStatus, unlockTable, clearedTable}
 use Rattle.master.specs.Tables.{goodTables}
-use Rattle.master.specs.Answers.{Told, refuses, answers, refusalNumber, Answered, no-bytes, status-byte, login-as, place-at, assign-bytes}
+use Rattle.master.specs.Answers.{Told, refuses, answers, refusalNumber, Answered, no-bytes, status-byte}
 use Rattle.master.specs.Refusals.{ANYBODY, misplaced, placeRefusal, frameTests, frameRefusal, refusal}
-use Rattle.master.specs.Frames.{placeTold, rowAnswer, assignable, assignAnswer, numberGiven, loginEffect, effectOf, requestEffect, frameEffect}
+use Rattle.master.specs.Frames.{placeTold, rowAnswer, assignable, assignAnswer, logoutEffect, oldLogouts, numberGiven, loginEffect, effectOf, requestEffect, frameEffect}
 use Rattle.master.proofs.RefusalLaws.{Passed, passed, tests-stop, seat-in}
 use Rattle.master.specs.Effects.{Effect, telling}
+use Rattle.master.specs.Ends.{numberIn}
+use Rattle.master.proofs.TableLaws.{records-good}
+use Rattle.master.proofs.LogoutLaws.{none-free}
+use Rattle.master.proofs.LoginLaws.{given}
 use Rattle.master.proofs.Outcomes.{told-refuses}
-
--- good tables, part by part
-pub records-good : (t w : List ℕ) → goodTables t w ≡ true → goodRecords w ≡ true
-unfolding goodTables
-records-good t w good = and-left (goodRecords w) (goodLocks (loggedIn w) t) good
-
-pub locks-good : (t w : List ℕ) → goodTables t w ≡ true → goodLocks (loggedIn w) t ≡ true
-unfolding goodTables
-locks-good t w good = and-right (goodRecords w) (goodLocks (loggedIn w) t) good
-
--- an answer that gives no number: it is none to a login, or one with number 0
-abbrev pub Numberless : Answered → Type 0
-Numberless a = (k : ℕ) (found : Bool) (serial : ℕ) → a ≡ login-as k found serial → k ≡ 0
-
-nothing-told : Numberless no-bytes
-nothing-told k found serial e = cc
-
-place-told : (v x : ℕ) → Numberless (place-at v x)
-place-told v x k found serial e = cc
-
-row-told : (z p c v : ℕ) → Numberless (assign-bytes z p c v)
-row-told z p c v k found serial e = cc
-
-none-given : (s : ℕ) → Numberless (login-as 0 false s)
-none-given s k found serial e = cc
 
 module _ (n : ℕ) (f s t w : List ℕ) where
   -- refused: nothing changes. Quiet: an answer and no change, and nobody is logged in. The others change a table
   pub data Deed : Effect (List ℕ) → Type 0 where
     refused : (a : Told) → (refusalNumber a ≡ 0 → ⊥) → Deed (telling a t w)
-    quiet : (a : Answered) → Numberless a → Deed (telling (answers a) t w)
-    logged-in : n ≡ ANYBODY → (numberGiven w ≡ 0 → ⊥) → (name serial : List ℕ) (product : ℕ) (found : Bool) → length name ≡ 8 → length serial ≡ 4
-        → Deed (telling (answers (login-as (numberGiven w) found (lowFirst serial))) t (afterLogin w (numberGiven w) (loggedInAs name serial product found)))
+    quiet : (a : Answered) → numberIn a ≡ 0 → Deed (telling (answers a) t w)
+    logged-in : n ≡ ANYBODY → goodTables t w ≡ true → (name serial : List ℕ) (product : ℕ) (found : Bool) → length name ≡ 8 → length serial ≡ 4 → serial ≡ requestIn f .serial
+        → (numberGiven (oldLogouts serial t w .records) ≡ 0 → ⊥) → Deed (given name serial product found (oldLogouts serial t w))
     locked : loggedIn w n ≡ true → (x : LockString) → length (x .bytes) ≡ 13 → Deed (telling (answers (status-byte (lockStatus t n x))) (lockTable t n x) w)
     unlocked : loggedIn w n ≡ true → (x : LockString) → Deed (telling (answers (status-byte (unlockStatus t n x))) (unlockTable t n x) w)
     cleared : loggedIn w n ≡ true → Deed (telling (answers (status-byte 0x00)) (clearedTable t n) w)
-    logged-out : loggedIn w n ≡ true → (n ≡ 0 → ⊥) → Deed (telling (answers no-bytes) (clearedTable t n) (afterLogout w n))
+    logged-out : loggedIn w n ≡ true → (n ≡ 0 → ⊥) → Deed (logoutEffect n t w)
 
   -- a frame that is not refused for its tables, its site file or by one of 1 to 7
   record Heard : Type 0 where
@@ -89,14 +65,14 @@ module _ (n : ℕ) (f s t w : List ℕ) where
       past false b x e = absurd (omega arith)
 
   place-done : (p : Placed) → Deed (telling (placeTold p) t w)
-  unfolding placeTold refusalNumber
+  unfolding placeTold refusalNumber numberIn
   place-done p = by-eq (p .refusal) 0
-      (λ e. rw e (quiet _ (place-told _ _)))
+      (λ e. rw e (quiet _ refl))
       (λ ne. rw (ne-eqb (p .refusal) 0 ne) (refused (refuses (p .refusal)) ne))
 
   assign-done : (q : Request) → Deed (telling (assignAnswer q s) t w)
-  unfolding assignAnswer rowAnswer
-  assign-done q = by-test (assignable q s) (λ y. rw y (quiet _ (row-told _ _ _ _))) (λ m. rw m (quiet _ (row-told _ _ _ _)))
+  unfolding assignAnswer rowAnswer numberIn
+  assign-done q = by-test (assignable q s) (λ y. rw y (quiet _ refl)) (λ m. rw m (quiet _ refl))
 
   module _ (h : Heard) where
     sized : length w ≡ 1152
@@ -121,15 +97,22 @@ module _ (n : ℕ) (f s t w : List ℕ) where
         second true b q = both refl q
         second false b q = q
 
-    login-done : code f ≡ LOGIN → Deed (loginEffect (loginIn f) (getD f 19 0) s t w)
-    unfolding loginEffect loginIn frameLength lengthIn frameTable
-    login-done e = by-eq (numberGiven w) 0
-        (λ z. rw z (quiet _ (none-given _)))
-        (λ ne. rw (ne-eqb (numberGiven w) 0 ne) (logged-in (at-anybody e) ne _ _ _ _ (length-part f 1 8 (omega (arith, long LOGIN e))) (length-part f 15 4 (omega (arith, long LOGIN e)))))
+    login-read : code f ≡ LOGIN → loginIn f ≡ requestIn f
+    unfolding requestIn
+    login-read e = rw e
+
+    login-done : code f ≡ LOGIN → Deed (loginEffect (loginIn f) (getD f 19 0) s (oldLogouts (loginIn f .serial) t w .locks) (oldLogouts (loginIn f .serial) t w .records))
+    unfolding loginEffect loginIn numberIn frameLength lengthIn frameTable
+    login-done e =
+        let serial = loginIn f .serial in
+        let k = numberGiven (oldLogouts serial t w .records) in
+        by-eq k 0
+        (λ z. let same = none-free serial t w (h .tables) z in rw same (rw (rw same at z) (quiet _ refl)))
+        (λ ne. rw (ne-eqb k 0 ne) (logged-in (at-anybody e) (h .tables) _ _ _ _ (length-part f 1 8 (omega (arith, long LOGIN e))) (length-part f 15 4 (omega (arith, long LOGIN e))) (ap (λ (q : Request). q .serial) (login-read e)) ne))
 
     done : Code (code f) → Deed (requestEffect (requestIn f) n s t w)
-    unfolding requestEffect requestIn stringRequest stringAt namedIn loginIn plain effectOf frameLength lengthIn frameTable
-    done (acknowledge e) = rw e (quiet no-bytes nothing-told)
+    unfolding requestEffect requestIn stringRequest stringAt namedIn loginIn plain effectOf logoutEffect numberIn frameLength lengthIn frameTable
+    done (acknowledge e) = rw e (quiet no-bytes refl)
     done (read e) = rw e (place-done _)
     done (write e) = rw e (place-done _)
     done (login e) = rw e (login-done e)

@@ -2,8 +2,13 @@ pub mod EffectLaws
 pub mod RefusalLaws
 pub mod ServeLaws
 pub mod Outcomes
+pub mod TableLaws
+pub mod LogoutLaws
+pub mod EndLaws
+pub mod LoginLaws
 pub mod Deeds
 pub mod Keeps
+pub mod ShopKept
 pub mod PollLaws
 pub mod PollKeeps
 pub mod DueLaws

@@ -26,8 +26,8 @@ use Rattle.master.specs.declared.Turned.the-variants.{Refused, Turn}
 use Rattle.master.specs.Tables.{goodTables}
 use Rattle.master.specs.Answers.{refuses, answers, turn-was, turnTold}
 use Rattle.master.specs.Polls.{stationAt, withCounts, afterTurn, pollRefusal, dueNow, outNow, stationTurn, pollEffect}
-use Rattle.master.proofs.Deeds.{records-good, locks-good}
-use Rattle.master.proofs.Keeps.{tables-are, logout-out, logout-tables, cleared-others}
+use Rattle.master.proofs.TableLaws.{records-good, locks-good, tables-are, logout-out, logout-tables}
+use Rattle.master.proofs.Keeps.{cleared-others}
 use Rattle.master.proofs.PollLaws.{seated, polled-below, polled-counts}
 use Rattle.master.specs.Effects.{Effect, telling, unless, Does}
 use Rattle.master.proofs.EffectLaws.{does-one, refused-does}

@@ -14,7 +14,7 @@ use Rattle.who.proofs.WhoLaws.{good-is, logged-below}
 use Rattle.master.specs.declared.Turned.the-variants.{Refused}
 use Rattle.master.specs.Tables.{goodTables}
 use Rattle.master.specs.Refusals.{ANYBODY, unknown}
-use Rattle.master.proofs.Deeds.{records-good}
+use Rattle.master.proofs.TableLaws.{records-good}
 use Rattle.master.specs.Polls.{stationAt, pollRefusal, Polls, turnRefusal, pollEffect}
 use Rattle.master.specs.Answers.{turnTold}
 use Rattle.master.specs.Inner.{seatRefusal}

@@ -15,6 +15,10 @@ pub record Effect (A : Type 0) : Type 0 where
 abbrev pub telling : {A : Type 0} → Told → List ℕ → A → Effect A
 telling a t w = record { tells = a; locks = t; records = w }
 
+-- one thing and then another, on the tables that the first left; what the other tells is told
+abbrev pub afterwards : {A : Type 0} → Effect A → (List ℕ → A → Effect A) → Effect A
+afterwards e next = next (e .locks) (e .records)
+
 -- refused with k, which tells a, and the tables t and w are as they were; or, with 0 for none, what is done
 abbrev pub unlessTold : {A : Type 0} → ℕ → Told → List ℕ → A → Effect A → Effect A
 unlessTold k a t w done = cond (eqb k 0) done (telling a t w)

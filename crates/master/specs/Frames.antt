@@ -1,6 +1,6 @@
 -- What each frame does. n is the number polled, q the request, s the site file, t and w the tables.
-use Prim.Native.Nat.{ℕ}
-use mathlib.Core.Bool.{Bool, false, cond, _&&_, _||_}
+use Prim.Native.Nat.{ℕ, zero, suc}
+use mathlib.Core.Bool.{Bool, false, cond, not, _&&_, _||_}
 use mathlib.Core.List.{List}
 use lib.Dec.{eqb, ltb}
 use Rattle.rows.specs.Words.{same, zeros}
@@ -16,12 +16,12 @@ use Rattle.site.specs.Faults.{firstFault}
 use Rattle.site.specs.Found.{hasUser, indexOfName}
 use Rattle.site.specs.Places.{placedIn}
 use Rattle.who.specs.Good.{numbers}
-use Rattle.who.specs.Logins.{lowestNumber, loggedInAs, afterLogin, afterLogout}
+use Rattle.who.specs.Logins.{hasSerial, lowestNumber, loggedInAs, afterLogin, afterLogout}
 use Rattle.locks.specs.Table.{lockStatus, lockTable, unlockStatus, unlockTable, clearedTable}
 use Rattle.master.specs.Answers.{Told, refuses, answers, faultTold, told, no-bytes, status-byte, assign-bytes, place-at, login-as, answersUnless}
 use Rattle.master.specs.declared.Answer.{Answer}
 use Rattle.master.specs.Refusals.{refusal}
-use Rattle.master.specs.Effects.{Effect, telling, unlessTold, Does}
+use Rattle.master.specs.Effects.{Effect, telling, afterwards, unlessTold, Does}
 
 -- read, write: the place. Its refusals 8 and 9 stand among the tests of a frame
 unfoldable pub placeTold : Placed → Told
@@ -57,17 +57,36 @@ assignAnswer q s =
     (rowAnswer (partitionRow s (indexOfName s (q .name))))
     (answers (assign-bytes 0xFF 0 0 0))
 
+-- logout: the sender's rows are freed and its record is cleared
+unfoldable pub logoutEffect : ℕ → List ℕ → List ℕ → Effect (List ℕ)
+logoutEffect n t w = telling (answers no-bytes) (clearedTable t n) (afterLogout w n)
+
+-- the logouts of those numbers below k that p names, one after the other
+unfoldable pub logoutsBelow : ℕ → (ℕ → Bool) → List ℕ → List ℕ → Effect (List ℕ)
+logoutsBelow zero p t w = telling (answers no-bytes) t w
+logoutsBelow (suc k) p t w = let e = logoutsBelow k p t w in cond (p k) (afterwards e (logoutEffect k)) e
+
+-- 02, Req 02: a login first logs out every number that is logged in with its serial; serial 00 00 00 00 is excepted
+unfoldable pub excepted : List ℕ → Bool
+excepted serial = zeros serial
+
+unfoldable pub startsAgain : List ℕ → List ℕ → ℕ → Bool
+startsAgain serial w n = not (excepted serial) && hasSerial w serial n
+
+unfoldable pub oldLogouts : List ℕ → List ℕ → List ℕ → Effect (List ℕ)
+oldLogouts serial t w = logoutsBelow numbers (startsAgain serial w) t w
+
 -- what each command does
 unfoldable pub effectOf : Command → Request → ℕ → List ℕ → List ℕ → List ℕ → Effect (List ℕ)
 effectOf Acknowledge q n s t w = telling (answers no-bytes) t w
 effectOf (Read src a) q n s t w = telling (placeTold (placedIn s a)) t w
 effectOf (Write src a) q n s t w = telling (placeTold (placedIn s a)) t w
-effectOf (Login product) q n s t w = loginEffect q product s t w
+effectOf (Login product) q n s t w = afterwards (oldLogouts (q .serial) t w) (loginEffect q product s)
 effectOf Assign q n s t w = telling (assignAnswer q s) t w
 effectOf Lock q n s t w = telling (answers (status-byte (lockStatus t n (q .string)))) (lockTable t n (q .string)) w
 effectOf Unlock q n s t w = telling (answers (status-byte (unlockStatus t n (q .string)))) (unlockTable t n (q .string)) w
 effectOf Clear q n s t w = telling (answers (status-byte 0x00)) (clearedTable t n) w
-effectOf (Logout src) q n s t w = telling (answers no-bytes) (clearedTable t n) (afterLogout w n)
+effectOf (Logout src) q n s t w = logoutEffect n t w
 
 unfoldable pub requestEffect : Request → ℕ → List ℕ → List ℕ → List ℕ → Effect (List ℕ)
 requestEffect q n s t w = effectOf (q .command) q n s t w

@@ -11,29 +11,33 @@ use Rattle.who.specs.declared.Station.{Station}
 use Rattle.who.specs.Records.{bytesOf}
 use Rattle.who.specs.Good.{numbers, stationsOf}
 use Rattle.who.specs.Row.{stationIn}
-use Rattle.who.specs.Logins.{afterLogout}
 use Rattle.locks.specs.Good.{goodLocks}
-use Rattle.locks.specs.Table.{clearedTable}
 use Rattle.master.specs.declared.Answer.{Answer}
 use Rattle.master.specs.declared.Step.{Step}
 use Rattle.master.specs.declared.Turned.{Turned}
 use Rattle.master.specs.declared.Turned.the-variants.{Refused, Turn}
 use Rattle.master.specs.Answers.{told, turnTold}
 use Rattle.master.specs.Effects.{Effect, unless, Does}
-use Rattle.master.specs.Frames.{loginEffect, requestEffect}
+use Rattle.master.specs.Frames.{logoutEffect, oldLogouts, loginEffect, requestEffect}
 use Rattle.master.specs.Polls.{turnRefusal, dueNow, stationTurn}
 use Rattle.master.specs.RowPolls.{rowEffect}
 
--- a request; a login, which leaves any lock table as it is; a logout
+-- a request; a login after the logouts, which leaves any lock table as it is; the tables after a logout, and after those of a login
 abbrev pub Performs : Request → ℕ → List ℕ → List ℕ → List ℕ → Answer → List ℕ → List ℕ → Type 0
 Performs q n s t w r = Does (requestEffect q n s t w) (told r)
 
 abbrev pub LogsIn : Request → ℕ → List ℕ → List ℕ → Answer → List ℕ → Type 0
 LogsIn q product s w r w′ = (t : List ℕ) → Does (loginEffect q product s t w) (told r) t w′
 
-pub record LogsOut (n : ℕ) (t w t′ w′ : List ℕ) : Type 0 where
-  pub locks : t′ ≡ clearedTable t n
-  pub records : w′ ≡ afterLogout w n
+pub record Left (e : Effect (List ℕ)) (t′ w′ : List ℕ) : Type 0 where
+  pub locks : t′ ≡ e .locks
+  pub records : w′ ≡ e .records
+
+abbrev pub LogsOut : ℕ → List ℕ → List ℕ → List ℕ → List ℕ → Type 0
+LogsOut n t w = Left (logoutEffect n t w)
+
+abbrev pub LogsOldOut : List ℕ → List ℕ → List ℕ → List ℕ → List ℕ → Type 0
+LogsOldOut serial t w = Left (oldLogouts serial t w)
 
 -- the refusals of a turn without 12, and 12 alone
 unfoldable pub seatRefusal : Bool → (ℕ → Bool) → ℕ → ℕ

@@ -3,6 +3,8 @@ pub mod Answers
 pub mod Effects
 pub mod Refusals
 pub mod Frames
+pub mod Ends
+pub mod Shop
 pub mod Fresh
 pub mod Polls
 pub mod RowPolls

@@ -20,7 +20,7 @@ ghost use Rattle.who.specs.Good.{goodRecords, numbers};
 ghost use Rattle.master.specs.Tables.{goodTables};
 ghost use Rattle.master.specs.Answers.{answers, told, assign-bytes};
 ghost use Rattle.master.specs.Frames.{placeTold, assignAnswer};
-ghost use Rattle.master.specs.Inner.{LogsIn, LogsOut, Performs};
+ghost use Rattle.master.specs.Inner.{LogsIn, LogsOut, LogsOldOut, Performs};
 
 // Read, write: the place.
 fn place(site: &[u8], address: Address) -> Answer
@@ -128,6 +128,23 @@ pub fn log_out(number: u8, locks: &mut [u8], records: &mut [u8])
     who::log_out(records, number as usize);
 }
 
+// Before a login: every number with its serial is logged out, but for serial 00 00 00 00. The records are walked once.
+fn log_old_out(serial: [u8; 4], locks: &mut [u8], records: &mut [u8])
+    requires { ⌜ goodTables (now locks) (now records) ≡ true ⌝ }
+    ensures { λ _. ⌜ LogsOldOut serial (now (locks .entry)) (now (records .entry)) (now (locks .exit)) (now (records .exit)) ⌝ }
+{
+    if rows::is_zero(&serial) {
+        return;
+    }
+    let mut n: usize = 0;
+    while n < who::NUMBERS {
+        if who::has_serial(records, n, serial) {
+            log_out(n as u8, locks, records);
+        }
+        n += 1;
+    }
+}
+
 // What a request does at a number. A number that is not logged in may only log in.
 pub fn perform(number: u8, q: Request, site: &[u8], locks: &mut [u8], records: &mut [u8]) -> Answer
     requires { ⌜ (goodTables (now locks) (now records) ≡ true) × (goodSite (now site) ≡ true) ⌝ }
@@ -135,12 +152,16 @@ pub fn perform(number: u8, q: Request, site: &[u8], locks: &mut [u8], records: &
     ensures { λ r. ⌜ Performs q number (now (site .entry)) (now (locks .entry)) (now (records .entry)) r (now (locks .exit)) (now (records .exit)) ⌝ }
 {
     let command = q.command;
+    let serial = q.serial;
     let string = q.string;
     match command {
         Command::Acknowledge => Answer::Nothing,
         Command::Read { src: _, address } => place(site, address),
         Command::Write { src: _, address } => place(site, address),
-        Command::Login { product } => log_in(q, product, site, records),
+        Command::Login { product } => {
+            log_old_out(serial, locks, records);
+            log_in(q, product, site, records)
+        }
         Command::Assign => assign(q, site),
         Command::Lock => Answer::Status(locks::lock(locks, number, string)),
         Command::Unlock => Answer::Status(locks::unlock(locks, number, string)),

@@ -1,24 +1,24 @@
-use Rattle.master.specs.Frames.{nameFound, loginEffect, assignable, assignAnswer, requestEffect, effectOf}
+use Rattle.master.specs.Frames.{logoutEffect, nameFound, loginEffect, assignable, assignAnswer, requestEffect, effectOf}
+use Rattle.master.proofs.TableLaws.{records-good}
+use Rattle.master.proofs.LogoutLaws.{old-cleared}
 use Rattle.master.specs.Answers.{told}
-use Rattle.master.specs.Tables.{goodTables}
-use Rattle.who.specs.Logins.{loggedIn}
-use Rattle.locks.specs.Good.{goodLocks}
-use Rattle.who.specs.Good.{goodRecords}
 use Rattle.frames.specs.Writing.{codeOf}
-use Rattle.rows.proofs.BoolLaws.{and-left}
-use denote.Ref.{now}
 use mathlib.Core.Path.{refl}
 use borrow.Author.Needs.{needs}
 use Rattle.master.proofs.commands.perform.Statement.{statement}
 use Rattle.master.proofs.commands.perform.Tie as tie
 
 log-in-requires : tie.Need-log-in-requires
-unfolding goodTables
-log-in-requires c κs = (and-left (goodRecords (now (c .before .before .before .before .before .before .before .before .args .records))) (goodLocks (loggedIn (now (c .before .before .before .before .before .before .before .before .args .records))) (now (c .before .before .before .before .before .before .before .before .args .locks))) (c .before .before .before .before .before .before .before .before .pre .0 .0), c .before .before .before .before .before .before .before .before .pre .0 .1)
+log-in-requires c κs =
+    let out = c .before .before .before .before .before in
+    let start = out .before .before .before .before .before .before .before .before .before .before .before in
+    (rw (out .log-old-out .ensures .records) (records-good _ _ (old-cleared _ _ _ (start .pre .0 .0) .tables)), start .pre .0 .1)
 
 log-out-requires : tie.Need-log-out-requires
-unfolding goodTables codeOf
-log-out-requires c κs = (and-left (goodRecords (now (c .before .before .before .before .before .before .before .before .args .records))) (goodLocks (loggedIn (now (c .before .before .before .before .before .before .before .before .args .records))) (now (c .before .before .before .before .before .before .before .before .args .locks))) (c .before .before .before .before .before .before .before .before .pre .0 .0), c .before .before .before .before .before .before .before .before .pre .1 (rw (c .before .before .enum-told6 .given .1)))
+unfolding codeOf
+log-out-requires c κs =
+    let start = c .before .before .before .before .before .before .before .before .before in
+    (records-good _ _ (start .pre .0 .0), start .pre .1 (rw (c .before .before .enum-told6 .given .1)))
 
 returns : tie.Need-returns
 unfolding told requestEffect effectOf
@@ -34,7 +34,9 @@ returns-3 c = rw (c .before .before .command2 .given .1) (record { answer = c .p
 
 returns-4 : tie.Need-returns-4
 unfolding requestEffect effectOf loginEffect told nameFound
-returns-4 c = rw (c .before .before .before .before .before .command3 .given .1) (c .before .before .log-in .ensures _)
+returns-4 c =
+    let out = c .before .before .before .before .before .before .before .before .log-old-out .ensures in
+    rw (c .before .before .before .before .before .before .before .before .before .before .before .before .command3 .given .1, ← out .locks, ← out .records) (c .before .before .log-in .ensures _)
 
 returns-5 : tie.Need-returns-5
 unfolding requestEffect effectOf assignAnswer assignable
@@ -53,7 +55,7 @@ unfolding told requestEffect effectOf
 returns-8 c = rw (c .before .before .before .before .enum-told5 .given .1) (record { answer = refl; locks = c .before .before .free-all .ensures; records = refl })
 
 returns-9 : tie.Need-returns-9
-unfolding told requestEffect effectOf
+unfolding told requestEffect effectOf logoutEffect
 returns-9 c = rw (c .before .before .before .before .before .before .before .enum-told6 .given .1) (record { answer = refl; locks = c .before .before .before .before .log-out .ensures .locks; records = c .before .before .before .before .log-out .ensures .records })
 
 pub perform-spec : {M : Type 1} → statement M
@@ -66,6 +68,7 @@ perform-spec =
     (λ c. search needs)
     (λ c κs. search needs)
     (λ c. search needs)
+    (λ c κs. search needs)
     log-in-requires
     (λ c. search needs)
     (λ c κs. search needs)
@@ -80,6 +83,7 @@ perform-spec =
     returns
     returns-2
     returns-3
+    (λ c. search needs)
     (λ c. search needs)
     returns-4
     returns-5
