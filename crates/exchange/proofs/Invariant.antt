@@ -1,8 +1,8 @@
 -- What holds of a station that follows the rules at every moment of a run.
 use Prim.Native.Nat.{ℕ, _*_, _≤_}
 use native.Mathlib.Omega.{arith}
-use mathlib.Core.Path.{_≡_, refl, sym, subst, _∙_}
-use mathlib.Core.Bool.{Bool, true}
+use mathlib.Core.Path.{_≡_, refl, sym, ap, subst, _∙_}
+use mathlib.Core.Bool.{Bool, true, false}
 use mathlib.Core.List.{List}
 use borrow.Author.Tests.{eq-eqb}
 use Rattle.rows.proofs.BoolLaws.{by-eq, both}
@@ -14,23 +14,24 @@ use Rattle.locks.specs.Table.{rowCount}
 use Rattle.locks.specs.Holding.{has}
 use Rattle.master.specs.Tables.{goodTables}
 use Rattle.master.proofs.Outcomes.{refused-no-answer}
-use Rattle.master.specs.Answers.{answers, status-byte, login-as}
+use Rattle.master.specs.Answers.{Told, answers, status-byte, login-as}
 use Rattle.master.specs.Refusals.{ANYBODY}
-use Rattle.master.proofs.Deeds.{deed}
-use Rattle.master.proofs.Keeps.{fresh-tables, logout-out, frame-keeps, frame-others-in, frame-others-have}
-use Rattle.master.proofs.PollKeeps.{turn-deed, poll-keeps, poll-others-have}
+use Rattle.master.proofs.TableLaws.{table, used-number, fresh-tables, logout-out}
+use Rattle.master.specs.Ends.{gives}
+use Rattle.master.proofs.EndLaws.{ends-not, ends-given, gives-login}
+use Rattle.master.proofs.Keeps.{Begins, frame-keeps, frame-lives, frame-begins}
+use Rattle.master.proofs.PollKeeps.{TurnDeed, turn-deed, poll-keeps, poll-others-have}
 use Rattle.station.specs.State.{waitOf, codeIn}
 use Rattle.station.specs.Good.{limit}
 use Rattle.station.specs.Asks.{freshState}
 use Rattle.station.specs.Replies.{replyRefusal, Replies}
 use Rattle.station.proofs.ListedLaws.{listed-none}
 use Rattle.station.proofs.Keeps as keeps
-use Rattle.exchange.specs.Runs.{Event, frame, turn, Run, start, _then_, effect, tables, answerIn}
+use Rattle.exchange.specs.Runs.{Event, frame, turn, Run, start, _then_, effect, tables, answerIn, endsIn}
 use Rattle.exchange.specs.Following.{sideFrame, sent, Follows, logs-in, others, polled, asks-lock, asks-unlock, asks-clear, sends, hears, sides, logout-refused}
 use Rattle.exchange.proofs.OwnFrames.{Leaving, stayed, left, own-logout, side-stays}
 use Rattle.exchange.proofs.Settling.{Settles, Exchange, unserved, settles, own-exchange}
 use Rattle.exchange.proofs.Agreement.{agrees-still, same-agrees, lost-agrees}
-use Rattle.exchange.proofs.OneNumber.{table, out-holds, no-mark, Enters, enters, turn-holds}
 use Rattle.exchange.proofs.Steps.{Inv, asks, lock-asked, unlock-asked, clear-asked, reply-taken, reply-inv}
 use Rattle.master.specs.Effects.{Effect}
 
@@ -40,6 +41,12 @@ unfolding tables effect
 run-good start = fresh-tables
 run-good (h then frame n f s) = frame-keeps n f s (tables h .locks) (tables h .records) (run-good h)
 run-good (h then turn n heard) = poll-keeps n heard (tables h .locks) (tables h .records) (run-good h)
+
+-- a poll turn that leaves k logged in leaves what k holds
+turn-holds : (t w : List ℕ) (good : goodTables t w ≡ true) (n : ℕ) (heard : Bool) (k : ℕ) (d : Effect (List ℕ)) → TurnDeed n heard t w d → n ≡ k → loggedIn (d .records) k ≡ true → (y : LockString) → has (d .locks) k y ≡ has t k y
+turn-holds t w good n heard k _ (TurnDeed.refused j ne) e i y = refl
+turn-holds t w good n heard k _ (TurnDeed.turned i₀ ne on) e i y = refl
+turn-holds t w good n heard k _ (TurnDeed.dropped i₀ ne out) e i y = both i (logout-out t w good n i₀ k ∙ rw (eq-eqb k n (sym e)))
 
 -- the whole of a run
 module _ (k : ℕ) where
@@ -51,28 +58,40 @@ module _ (k : ℕ) where
   goes-on h e st i in-now same = record { inside = in-now; state-good = i .state-good; agrees = agrees-still (i .agrees) same }
 
   -- a login that is answered with k
-  pub begins : (h : Run) (f s : List ℕ) (found : Bool) (serial : ℕ) → (k ≡ 0 → ⊥) → answerIn h ANYBODY f s ≡ answers (login-as k found serial) → Enters (tables h .locks) (tables h .records) (run-good h) k (tables (h then frame ANYBODY f s) .locks) (tables (h then frame ANYBODY f s) .records)
-  unfolding answerIn tables effect
-  begins h f s found serial nz e = enters _ _ (run-good h) ANYBODY k f s _ (deed ANYBODY f s _ _) found serial e nz
+  gives-k : (h : Run) (f s : List ℕ) (found : Bool) (serial : ℕ) → (k ≡ 0 → ⊥) → answerIn h ANYBODY f s ≡ answers (login-as k found serial) → gives (answerIn h ANYBODY f s) k ≡ true
+  gives-k h f s found serial nz e = ap (λ (x : Told). gives x k) e ∙ gives-login k nz found serial k ∙ eq-eqb k k refl
 
-  empty-agrees : (h : Run) (f s : List ℕ) → Enters (tables h .locks) (tables h .records) (run-good h) k (tables (h then frame ANYBODY f s) .locks) (tables (h then frame ANYBODY f s) .records) → At (h then frame ANYBODY f s) freshState
-  unfolding codeIn
+  pub begins : (h : Run) (f s : List ℕ) (found : Bool) (serial : ℕ) → (k ≡ 0 → ⊥) → answerIn h ANYBODY f s ≡ answers (login-as k found serial)
+      → Begins ANYBODY f s (tables h .locks) (tables h .records) (run-good h) k (effect (frame ANYBODY f s) (tables h))
+  unfolding answerIn effect
+  begins h f s found serial nz e = frame-begins ANYBODY f s _ _ (run-good h) k (gives-k h f s found serial nz e)
+
+  -- and ends whoever had the number
+  pub login-ends : (h : Run) (f s : List ℕ) (found : Bool) (serial : ℕ) → (k ≡ 0 → ⊥) → answerIn h ANYBODY f s ≡ answers (login-as k found serial) → endsIn h (frame ANYBODY f s) k ≡ true
+  unfolding endsIn answerIn
+  login-ends h f s found serial nz e = ends-given _ k (gives-k h f s found serial nz e)
+
+  empty-agrees : (h : Run) (f s : List ℕ) → Begins ANYBODY f s (tables h .locks) (tables h .records) (run-good h) k (effect (frame ANYBODY f s) (tables h)) → At (h then frame ANYBODY f s) freshState
+  unfolding codeIn tables
   empty-agrees h f s n = record {
     inside = n .is-in;
     state-good = keeps.fresh-good;
-    agrees = same-agrees (λ y. rw (keeps.fresh-list, n .same-locks) (listed-none (14 * limit) y ∙ sym (out-holds _ _ (run-good h) k (n .was-out) y))) (rw keeps.fresh-wait);
+    agrees = same-agrees (λ y. rw keeps.fresh-list (listed-none (14 * limit) y ∙ sym (n .holds-none y))) (rw keeps.fresh-wait);
   }
 
-  others-on : (h : Run) (st : List ℕ) (n : ℕ) (f s : List ℕ) → (n ≡ k → ⊥) → At h st → At (h then frame n f s) st
-  unfolding tables effect
-  others-on h st n f s ne i =
-      let other : k ≡ n → ⊥ = λ e. ne (sym e) in
-      goes-on h (frame n f s) st i (frame-others-in n f s _ _ (run-good h) k other (i .inside) .0) (frame-others-have n f s _ _ (run-good h) k other)
+  -- who is not ended is in
+  stays : (h : Run) (e : Event) → endsIn h e k ≡ false → loggedIn (tables (h then e) .records) k ≡ true
+  unfolding endsIn tables
+  stays h e o = ends-not _ k o .0
 
-  polled-on : (h : Run) (st : List ℕ) (n : ℕ) (heard : Bool) → loggedIn (tables (h then turn n heard) .records) k ≡ true → At h st → At (h then turn n heard) st
+  others-on : (h : Run) (st : List ℕ) (n : ℕ) (f s : List ℕ) → (n ≡ k → ⊥) → endsIn h (frame n f s) k ≡ false → At h st → At (h then frame n f s) st
+  unfolding endsIn tables effect
+  others-on h st n f s ne o i = goes-on h (frame n f s) st i (stays h (frame n f s) o) (frame-lives n f s _ _ (run-good h) k o .same-locks (λ e. ne (sym e)))
+
+  polled-on : (h : Run) (st : List ℕ) (n : ℕ) (heard : Bool) → endsIn h (turn n heard) k ≡ false → At h st → At (h then turn n heard) st
   unfolding tables effect
-  polled-on h st n heard in-now i = goes-on h (turn n heard) st i in-now (λ y. by-eq n k
-      (λ e. turn-holds _ _ (run-good h) n heard k _ (turn-deed n heard _ _) e in-now y)
+  polled-on h st n heard o i = goes-on h (turn n heard) st i (stays h _ o) (λ y. by-eq n k
+      (λ e. turn-holds _ _ (run-good h) n heard k _ (turn-deed n heard _ _) e (stays h _ o) y)
       (λ ne. poll-others-have n heard _ _ (run-good h) k (λ e. ne (sym e)) y))
 
   sides-on : (h : Run) (st f s : List ℕ) → sideFrame f ≡ true → At h st → At (h then frame k f s) st
@@ -82,9 +101,9 @@ module _ (k : ℕ) where
       goes-on h (frame k f s) st i (rw (stays .1) (i .inside)) (λ x. rw (stays .0))
 
   -- a logout that is not refused logs it out
-  logout-on : (h : Run) (st f s : List ℕ) → code f ≡ LOGOUT → loggedIn (tables (h then frame k f s) .records) k ≡ true → At h st → At (h then frame k f s) st
+  logout-on : (h : Run) (st f s : List ℕ) → code f ≡ LOGOUT → endsIn h (frame k f s) k ≡ false → At h st → At (h then frame k f s) st
   unfolding tables effect
-  logout-on h st f s e in-now i = goes-on h (frame k f s) st i in-now (go (own-logout k f s _ _ e) in-now)
+  logout-on h st f s e o i = goes-on h (frame k f s) st i (stays h _ o) (go (own-logout k f s _ _ e) (stays h _ o))
     where
       go : {d : Effect (List ℕ)} → Leaving k f s (tables h .locks) (tables h .records) d → loggedIn (d .records) k ≡ true → (y : LockString) → has (d .locks) k y ≡ has (tables h .locks) k y
       go (stayed _ _) _ y = refl
@@ -92,7 +111,7 @@ module _ (k : ℕ) where
 
   own-table : (h : Run) (st : List ℕ) → At h st → (b s : List ℕ) → Exchange k (tables h .locks) (tables h .records) (waitOf st) (effect (frame k (sent st b) s) (tables h))
   unfolding effect
-  own-table h st i b s = own-exchange _ (table _ _ (run-good h)) k (no-mark _ _ (run-good h) k (i .inside)) s st b (i .state-good)
+  own-table h st i b s = own-exchange _ (table _ _ (run-good h)) k (used-number _ _ (run-good h) k (i .inside)) s st b (i .state-good)
 
   -- the reply is lost
   lost : {t w st : List ℕ} {d : Effect (List ℕ)} → Inv k t w st → Exchange k t w (waitOf st) d → Inv k (d .locks) (d .records) st
@@ -127,12 +146,12 @@ module _ (k : ℕ) where
   pub invariant : {h : Run} {at : ℕ} {st : List ℕ} → Follows k h at st → At h st
   unfolding tables
   invariant (logs-in h f s found serial nz e) = empty-agrees h f s (begins h f s found serial nz e)
-  invariant (others {h} {at} {st} n f s ne d) = others-on h st n f s ne (invariant d)
-  invariant (polled {h} {at} {st} n heard in-now d) = polled-on h st n heard in-now (invariant d)
+  invariant (others {h} {at} {st} n f s ne o d) = others-on h st n f s ne o (invariant d)
+  invariant (polled {h} {at} {st} n heard o d) = polled-on h st n heard o (invariant d)
   invariant (asks-lock {h} {at} {st} x long r st′ a d) = let i = invariant d in asks k _ _ st i _ st′ r a (lock-asked k _ _ st i x long)
   invariant (asks-unlock {h} {at} {st} x long r st′ a d) = let i = invariant d in asks k _ _ st i _ st′ r a (unlock-asked k _ _ st i x long)
   invariant (asks-clear {h} {at} {st} r st′ a d) = let i = invariant d in asks k _ _ st i _ st′ r a (clear-asked k _ _ st i)
   invariant (sends {h} {at} {st} b s d) = let i = invariant d in lost i (own-table h st i b s)
   invariant (hears {h} {at} {st} b s status r st′ e a d) = heard-on h st (invariant d) b s status r st′ e a
   invariant (sides {h} {at} {st} f s y d) = sides-on h st f s y (invariant d)
-  invariant (logout-refused {h} {at} {st} f s e in-now d) = logout-on h st f s e in-now (invariant d)
+  invariant (logout-refused {h} {at} {st} f s e o d) = logout-on h st f s e o (invariant d)

@@ -2,7 +2,6 @@ pub mod OwnFrames
 pub mod Settling
 pub mod Agreement
 pub mod Counting
-pub mod OneNumber
 pub mod Steps
 pub mod Invariant
 pub mod Logins
@@ -12,3 +11,4 @@ pub mod Told
 pub mod TurnsLeft
 pub mod Silenced
 pub mod Happened
+pub mod Restarted

@@ -20,14 +20,14 @@ use Rattle.locks.specs.Table.{lockStatus, lockTable, unlockStatus, unlockTable,
 use Rattle.master.specs.Tables.{goodTables}
 use Rattle.master.specs.Answers.{Told, answers, refusalNumber, no-bytes, status-byte}
 use Rattle.master.specs.Refusals.{ANYBODY, unknown, misplaced, srcDiffers, placeRefusal, frameTests, frameRefusal, refusal}
-use Rattle.master.proofs.Deeds.{records-good}
+use Rattle.master.proofs.TableLaws.{records-good}
 use Rattle.master.proofs.Outcomes.{told-refuses}
 use Rattle.station.specs.State.{waitOf, askedIn}
 use Rattle.station.specs.Good.{goodState}
 use Rattle.station.specs.Asks.{frameAwaited, sendRefusal, sentOf, bufferAfter}
 use Rattle.exchange.specs.Following.{sideFrame, sent}
 use Rattle.master.specs.Effects.{Effect, telling}
-use Rattle.master.specs.Frames.{effectOf, requestEffect, frameEffect}
+use Rattle.master.specs.Frames.{logoutEffect, effectOf, requestEffect, frameEffect}
 
 -- what `send` leaves is the frame awaited, or nothing where it is refused
 module _ (st b : List ℕ) where
@@ -107,7 +107,7 @@ module _ (n : ℕ) (f s t w : List ℕ) where
     left : Leaving (telling (answers no-bytes) (clearedTable t n) (afterLogout w n))
 
   pub own-logout : code f ≡ LOGOUT → Leaving (frameEffect n f s t w)
-  unfolding frameEffect requestIn plain requestEffect effectOf
+  unfolding frameEffect requestIn plain requestEffect effectOf logoutEffect
   own-logout e = by-eq (refusal n f s t w) 0
       (λ z. rw (z, e) left)
       (λ ne. rw (ne-eqb (refusal n f s t w) 0 ne) (stayed _ (told-refuses s (refusal n f s t w) ne)))

@@ -24,7 +24,7 @@ use Rattle.master.specs.declared.Turned.the-variants as turns
 use Rattle.master.specs.Answers.{Told, told, turnTold}
 use Rattle.master.specs.Refusals.{refusal}
 use Rattle.master.specs.Fresh.{sized, freshEffect}
-use Rattle.master.specs.Frames.{placeTold, nameFound, assignable, rowAnswer, assignAnswer, numberGiven, loginEffect, effectOf, requestEffect, refusalTold, frameEffect}
+use Rattle.master.specs.Frames.{placeTold, nameFound, assignable, rowAnswer, assignAnswer, logoutEffect, numberGiven, loginEffect, effectOf, requestEffect, refusalTold, frameEffect}
 use Rattle.master.specs.Polls.{pollRefusal, dueNow, outNow, stationTurn, pollEffect, stationAt}
 use Rattle.exchange.specs.Runs.{frame, turn, Run, start, _then_, effect, tables, Played, fresh, serve, poll-turn}
 use Rattle.master.specs.Effects.{unless}
@@ -53,11 +53,11 @@ assign-given q s = by-test (assignable q s)
     (λ n. record { answer = Assigned 0xFF (record { 0 = 0 }) 0 (record { 0 = 0 }); tells = rw n refl })
 
 command-given : (c : Command) (q : Request) (n : ℕ) (s t w : List ℕ) → Given told (effectOf c q n s t w .tells)
-unfolding effectOf told
+unfolding effectOf logoutEffect told
 command-given Acknowledge q n s t w = record { answer = Nothing; tells = refl }
 command-given (Read src a) q n s t w = place-given _
 command-given (Write src a) q n s t w = place-given _
-command-given (Login product) q n s t w = login-given q product s t w
+command-given (Login product) q n s t w = login-given q product s _ _
 command-given Assign q n s t w = assign-given q s
 command-given Lock q n s t w = record { answer = Status _; tells = refl }
 command-given Unlock q n s t w = record { answer = Status _; tells = refl }

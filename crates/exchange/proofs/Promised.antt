@@ -25,9 +25,9 @@ use Rattle.exchange.specs.Promise.{holds, lists, Promise}
 use Rattle.exchange.proofs.Settling.{own-answer}
 use Rattle.exchange.proofs.Playing.{playable}
 use Rattle.exchange.proofs.Agreement.{agree-same}
-use Rattle.exchange.proofs.OneNumber.{table, no-mark}
+use Rattle.master.proofs.TableLaws.{table, used-number}
 use Rattle.exchange.proofs.Invariant.{run-good, invariant, taken}
-use Rattle.exchange.proofs.Logins.{one-number}
+use Rattle.exchange.proofs.Logins.{lives, spared, one-number}
 use Rattle.master.specs.Effects.{unless}
 use Rattle.master.specs.Fresh.{freshEffect}
 
@@ -45,7 +45,7 @@ answer-comes : {k at : ℕ} {h : Run} {st : List ℕ} → Follows k h at st → 
 unfolding answerIn effect
 answer-comes {k} {at} {h} {st} d w b s long site =
     let i = invariant k d in
-    own-answer _ (table _ _ (run-good h)) k (no-mark _ _ (run-good h) k (i .inside)) s (run-good h) site (i .inside) st b (i .state-good) w long
+    own-answer _ (table _ _ (run-good h)) k (used-number _ _ (run-good h) k (i .inside)) s (run-good h) site (i .inside) st b (i .state-good) w long
 
 -- a reply that is not refused ends the wait
 reply-ends : (st : List ℕ) (b r : ℕ) (st′ : List ℕ) → Replies st b r st′ → replyRefusal st b ≡ 0 → (r ≡ 0) × (waits st′ ≡ false)
@@ -76,6 +76,8 @@ promise = record {
   apart = λ {j} {k} {a} {b} {h} {st} {st′} d d′ ne e. ne (one-number d (subst (λ (n : ℕ). Follows n h b st′) (sym e) d′));
   alone = λ {j} {k} {a} {b} {h} {st} {st′} d d′ ne x l. contra (isListed (listOf st′) x) (has (tables h .locks) k x) (invariant k d′ .agrees .in-master x) (other-holds d d′ ne x l);
   inside = λ {k} d. invariant k d .inside;
+  lives = lives;
+  spared = spared;
   answered = λ {k} {at} {h} {st} d w b s long good. answer-comes d w b s long good;
   taken = λ {k} {at} {h} {st} d b s status e r st′ a. reply-ends st status r st′ a (taken k h st (invariant k d) b s status e);
   tables-good = run-good;

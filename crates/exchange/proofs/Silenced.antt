@@ -8,27 +8,26 @@ use borrow.Author.Tests.{eqb-true, eq-eqb, leb-true, leb-false, le-leb}
 use Rattle.rows.proofs.BoolLaws.{by-test, iff}
 use Rattle.who.specs.Logins.{loggedIn}
 use Rattle.who.proofs.TurnLaws.{dueWith}
-use Rattle.master.proofs.Keeps.{frame-others-in}
+use Rattle.master.proofs.TableLaws.{out-holds}
+use Rattle.master.proofs.EndLaws.{ends-not}
 use Rattle.master.proofs.PollKeeps.{poll-others-in}
-use Rattle.exchange.specs.Runs.{frame, turn, Run, _then_, effect, tables}
+use Rattle.exchange.specs.Runs.{turn, Run, _then_, effect, tables, endsIn}
 use Rattle.exchange.specs.Promise.{holds}
 use Rattle.exchange.specs.Silence.{Silent, logs-in, polled, others, others-polled, lastTurn, dueInTurn, Silence}
-use Rattle.exchange.proofs.OneNumber.{out-holds}
 use Rattle.exchange.proofs.Invariant.{run-good}
-use Rattle.exchange.proofs.TurnsLeft.{leftTo, begun, beside, turn-tells, last, next}
+use Rattle.exchange.proofs.TurnsLeft.{leftTo, all-left, beside, framed, turn-tells, last, next}
 
 -- it is in, with all but t of its turns left
 left-of : {k t : ℕ} {h : Run} → Silent k h t → t < lastTurn → (k ≡ 0 → ⊥) × (loggedIn (tables h .records) k ≡ true) × (leftTo h k + t ≡ lastTurn)
-unfolding tables effect
-left-of {k} (logs-in h f s found serial nz e) l = let b = begun k h f s found serial nz e in (nz, b .0, omega (arith, b .1))
+unfolding tables effect endsIn
+left-of {k} (logs-in h f s found serial nz e) l = let b = all-left k h f s found serial nz e in (nz, b .0, omega (arith, b .1))
 left-of {k} (polled {h} {t} d) l =
     let p = left-of d (omega arith) in
     let n = next k (p .0) h (p .1) (omega (arith, p .2)) in
     (p .0, n .0, omega (arith, p .2, n .1))
-left-of {k} (others {h} n f s ne d) l =
+left-of {k} (others {h} n f s o d) l =
     let p = left-of d l in
-    let kept = frame-others-in n f s _ _ (run-good h) k (λ e. ne (sym e)) (p .1) in
-    (p .0, kept .0, rw (beside k h (frame n f s) (kept .1)) (p .2))
+    (p .0, ends-not _ k o .0, rw (framed k h n f s o) (p .2))
 left-of {k} (others-polled {h} n heard ne d) l =
     let p = left-of d l in
     let kept = poll-others-in n heard _ _ (run-good h) k (λ e. ne (sym e)) in

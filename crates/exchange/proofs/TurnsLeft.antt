@@ -8,7 +8,7 @@ use mathlib.Core.List.{List}
 use lib.Dec.{eqb}
 use borrow.Author.Tests.{eq-eqb, ne-eqb}
 use Rattle.rows.specs.Rows.{row, setRow}
-use Rattle.rows.proofs.BoolLaws.{both, by-test}
+use Rattle.rows.proofs.BoolLaws.{by-test}
 use Rattle.who.specs.declared.Station.{Station}
 use Rattle.who.specs.Good.{goodCounts}
 use Rattle.who.specs.Logins.{loggedIn, afterLogout}
@@ -17,14 +17,16 @@ use Rattle.who.proofs.TurnLaws.{dueWith, out-last, silent-left, due-when}
 use Rattle.master.specs.Refusals.{ANYBODY, unknown}
 use Rattle.master.specs.Answers.{answers, login-as, turn-was}
 use Rattle.master.specs.Polls.{stationAt, withCounts, afterTurn, pollRefusal, turnRefusal, dueNow, outNow, stationTurn, pollEffect}
-use Rattle.master.proofs.Keeps.{logout-out, RecordCase, same, by-login, by-logout, frame-record}
+use Rattle.master.proofs.TableLaws.{logout-out}
+use Rattle.master.proofs.Keeps.{frame-lives}
 use Rattle.master.proofs.PollLaws.{polled-below, polled-counts}
 use Rattle.master.proofs.PollKeeps.{turned-logged, turned-station}
-use Rattle.exchange.specs.Runs.{Event, frame, turn, Run, start, _then_, effect, tables, answerIn, turnIn}
+use Rattle.exchange.specs.Runs.{Event, frame, turn, Run, start, _then_, effect, tables, answerIn, turnIn, endsIn}
 use Rattle.exchange.specs.Following.{Follows, logs-in, others, polled, asks-lock, asks-unlock, asks-clear, sends, hears, sides, logout-refused}
 use Rattle.exchange.specs.Silence.{lastTurn}
 use Rattle.exchange.specs.Story.{silent}
 use Rattle.exchange.proofs.Invariant.{run-good, invariant, begins}
+use Rattle.exchange.proofs.Logins.{own-lives, turn-lives}
 use Rattle.master.specs.Effects.{unless}
 use Rattle.who.specs.Records.{bytesOf}
 use Rattle.who.proofs.RecordLaws.{vacant-bytes}
@@ -33,26 +35,19 @@ unfoldable pub leftTo : Run → ℕ → ℕ
 leftTo h k = turnsLeft (stationAt (tables h .records) k .misses) (stationAt (tables h .records) k .slow)
 
 -- from its login
-pub begun : (k : ℕ) (h : Run) (f s : List ℕ) (found : Bool) (serial : ℕ) → (k ≡ 0 → ⊥) → answerIn h ANYBODY f s ≡ answers (login-as k found serial)
+pub all-left : (k : ℕ) (h : Run) (f s : List ℕ) (found : Bool) (serial : ℕ) → (k ≡ 0 → ⊥) → answerIn h ANYBODY f s ≡ answers (login-as k found serial)
     → (loggedIn (tables (h then frame ANYBODY f s) .records) k ≡ true) × (leftTo (h then frame ANYBODY f s) k ≡ lastTurn)
-unfolding leftTo turnsLeft
-begun k h f s found serial nz e = let n = begins k h f s found serial nz e in (n .is-in, rw (n .no-misses))
+unfolding leftTo turnsLeft tables
+all-left k h f s found serial nz e = let n = begins k h f s found serial nz e in (n .is-in, rw (n .no-misses))
 
 -- what leaves its record leaves their number
 pub beside : (k : ℕ) (h : Run) (e : Event) → row 18 (tables (h then e) .records) k ≡ row 18 (tables h .records) k → leftTo (h then e) k ≡ leftTo h k
 unfolding leftTo stationAt
 beside k h e kept = rw kept
 
--- and so does a frame, of its own too, that leaves it in
-framed : (k : ℕ) (h : Run) (n : ℕ) (f site : List ℕ) → loggedIn (tables h .records) k ≡ true → loggedIn (tables (h then frame n f site) .records) k ≡ true
-    → leftTo (h then frame n f site) k ≡ leftTo h k
-unfolding tables effect
-framed k h n f site in-then in-now = go (frame-record n f site _ _ (run-good h) k)
-  where
-    go : RecordCase n f site (tables h .locks) (tables h .records) (run-good h) k (tables (h then frame n f site) .records) → leftTo (h then frame n f site) k ≡ leftTo h k
-    go (same e) = beside k h (frame n f site) e
-    go (by-login a z out) = both in-then out
-    go (by-logout z e) = both in-now (rw e (logout-out _ _ (run-good h) n (rw (← z) in-then) k ∙ rw (eq-eqb k n z)))
+-- and so does a frame, of its own too, that does not end it
+pub framed : (k : ℕ) (h : Run) (n : ℕ) (f site : List ℕ) → endsIn h (frame n f site) k ≡ false → leftTo (h then frame n f site) k ≡ leftTo h k
+framed k h n f site o = beside k h (frame n f site) (unfold endsIn tables effect in frame-lives n f site _ _ (run-good h) k o .same-record)
 
 -- a station that follows the rules has all its turns where there was none
 unfoldable pub turnless : Run → Bool
@@ -62,16 +57,16 @@ turnless (h then turn n heard) = false
 
 pub no-miss : {k at : ℕ} {h : Run} {st : List ℕ} → Follows k h at st → turnless h ≡ true → leftTo h k ≡ lastTurn
 unfolding turnless
-no-miss {k} (logs-in h f s found serial nz e) q = begun k h f s found serial nz e .1
-no-miss {k} (others {h} n f s ne d) q = framed k h n f s (invariant k d .inside) (invariant k (others n f s ne d) .inside) ∙ no-miss d q
-no-miss {k} (polled n heard in-now d) q = absurd (true≢false (sym q))
+no-miss {k} (logs-in h f s found serial nz e) q = all-left k h f s found serial nz e .1
+no-miss {k} (others {h} n f s ne o d) q = framed k h n f s o ∙ no-miss d q
+no-miss {k} (polled n heard o d) q = absurd (true≢false (sym q))
 no-miss (asks-lock x long r st′ a d) q = no-miss d q
 no-miss (asks-unlock x long r st′ a d) q = no-miss d q
 no-miss (asks-clear r st′ a d) q = no-miss d q
-no-miss {k} (sends {h} b s d) q = framed k h k _ s (invariant k d .inside) (invariant k (sends b s d) .inside) ∙ no-miss d q
-no-miss {k} (hears {h} b s status r st′ e a d) q = framed k h k _ s (invariant k d .inside) (invariant k (hears b s status r st′ e a d) .inside) ∙ no-miss d q
-no-miss {k} (sides {h} f s y d) q = framed k h k f s (invariant k d .inside) (invariant k (sides f s y d) .inside) ∙ no-miss d q
-no-miss {k} (logout-refused {h} f s e in-now d) q = framed k h k f s (invariant k d .inside) in-now ∙ no-miss d q
+no-miss {k} (sends {h} b s d) q = framed k h k _ s (own-lives d (sends b s d)) ∙ no-miss d q
+no-miss {k} (hears {h} b s status r st′ e a d) q = framed k h k _ s (own-lives d (hears b s status r st′ e a d)) ∙ no-miss d q
+no-miss {k} (sides {h} f s y d) q = framed k h k f s (own-lives d (sides f s y d)) ∙ no-miss d q
+no-miss {k} (logout-refused {h} f s e o d) q = framed k h k f s o ∙ no-miss d q
 
 -- its own turn that is not heard
 module _ (k : ℕ) (nz : k ≡ 0 → ⊥) where
@@ -122,7 +117,7 @@ module _ (k : ℕ) (nz : k ≡ 0 → ⊥) where
   unfolding silent
   silent-follows zero l d = d
   silent-follows (suc j) {h = h} l d =
-      let n = next h (invariant k d .inside) (omega arith) in silent-follows j (omega (arith, n .1)) (polled k false (n .0) d)
+      let n = next h (invariant k d .inside) (omega arith) in silent-follows j (omega (arith, n .1)) (polled k false (turn-lives k h k false (n .0)) d)
 
   pub silent-out : (j : ℕ) (h : Run) → loggedIn (tables h .records) k ≡ true → leftTo h k ≡ suc j → loggedIn (tables (silent k (suc j) h) .records) k ≡ false
   unfolding silent

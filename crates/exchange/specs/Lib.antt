@@ -3,3 +3,4 @@ pub mod Following
 pub mod Promise
 pub mod Silence
 pub mod Story
+pub mod Reset

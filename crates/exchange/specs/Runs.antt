@@ -13,6 +13,7 @@ use Rattle.master.specs.Fresh.{sized, Freshens}
 use Rattle.master.specs.Frames.{Serves, frameEffect}
 use Rattle.master.specs.Polls.{Polls, pollEffect}
 use Rattle.master.specs.Effects.{Effect}
+use Rattle.master.specs.Ends.{ends}
 
 -- any bytes as a frame at any number, with any bytes as the site file of that call; a poll turn of any number, heard or not
 pub data Event : Type 0 where
@@ -49,6 +50,10 @@ answerIn h n f s = effect (frame n f s) (tables h) .tells
 
 unfoldable pub turnIn : Run → ℕ → Bool → Told
 turnIn h n heard = effect (turn n heard) (tables h) .tells
+
+-- an event after a run ends the station under k: k is out after it, or k is the number that it gives
+unfoldable pub endsIn : Run → Event → ℕ → Bool
+endsIn h e k = ends (effect e (tables h)) k
 
 -- the run as the entries play it: `fresh`, and then `serve` or `poll_turn` for each event, each on the tables that the one before left
 pub data Played : Run → List ℕ → List ℕ → Type 0 where

@@ -1,5 +1,4 @@
--- The silent station, over the poll turns of a run: from its login on it is not heard and sends nothing, while anything happens to
--- everybody else. It is due in turns 1 to 160, then in 172, 184 and so on to 1,312, and is logged out in that turn.
+-- The silent station, over the poll turns of a run: from its login on it is not heard, while anything happens that does not end it. It is due in turns 1 to 160, then in 172, 184 and so on to 1,312, and is logged out in that turn.
 use Prim.Native.Nat.{ℕ, suc, _-_, _%_, _<_}
 use mathlib.Core.Path.{_≡_}
 use mathlib.Core.Bool.{Bool, true, false, _||_}
@@ -9,7 +8,7 @@ use Rattle.terms.specs.declared.LockString.{LockString}
 use Rattle.who.specs.Logins.{loggedIn}
 use Rattle.master.specs.Answers.{answers, login-as, turn-was}
 use Rattle.master.specs.Refusals.{ANYBODY}
-use Rattle.exchange.specs.Runs.{frame, turn, Run, _then_, tables, answerIn, turnIn}
+use Rattle.exchange.specs.Runs.{frame, turn, Run, _then_, tables, answerIn, turnIn, endsIn}
 use Rattle.exchange.specs.Promise.{holds}
 
 -- k has logged in, and since then t poll turns of k have passed, none of them heard
@@ -18,8 +17,8 @@ pub data Silent (k : ℕ) : Run → ℕ → Type 0 where
       → answerIn h ANYBODY f s ≡ answers (login-as k found serial)
       → Silent k (h then frame ANYBODY f s) 0
   polled : {h : Run} {t : ℕ} → Silent k h t → Silent k (h then turn k false) (suc t)
-  -- any frame of anybody else and any turn of another number, heard or not
-  others : {h : Run} {t : ℕ} (n : ℕ) (f s : List ℕ) → (n ≡ k → ⊥) → Silent k h t → Silent k (h then frame n f s) t
+  -- any frame that does not end the station, and any turn of another number, heard or not
+  others : {h : Run} {t : ℕ} (n : ℕ) (f s : List ℕ) → endsIn h (frame n f s) k ≡ false → Silent k h t → Silent k (h then frame n f s) t
   others-polled : {h : Run} {t : ℕ} (n : ℕ) (heard : Bool) → (n ≡ k → ⊥) → Silent k h t → Silent k (h then turn n heard) t
 
 -- the last turn, and the turns in which it is due
