@@ -68,7 +68,7 @@ static struct inputs inputs;
 static uint8_t locks[LOCKS], stations[STATIONS], state[STATE_LEN];
 
 enum what {
-    NOTHING, CHECK_TABLES, CHECK_SITE, PLACE, FRAME, DUE, POLL,
+    NOTHING, CHECK_TABLES, CHECK_SITE, PLACE, FRAME, LOGIN_AGAIN, LOGIN_OTHER, DUE, POLL,
     STATION_FRESH, STATION_LOCK, STATION_UNLOCK, STATION_CLEAR, STATION_FRAME, STATION_REPLY
 };
 
@@ -89,6 +89,11 @@ static const struct bench_case cases[] = {
     { "read", FRAME, &inputs.full, CODE_READ, &inputs.idle_empty },
     { "write", FRAME, &inputs.full, CODE_WRITE, &inputs.idle_empty },
     { "login", FRAME, &inputs.full, CODE_LOGIN, &inputs.idle_empty },
+    { "login-other", LOGIN_OTHER, &inputs.full, CODE_LOGIN, &inputs.idle_empty },
+    { "login-again", LOGIN_AGAIN, &inputs.full, CODE_LOGIN, &inputs.idle_empty },
+    { "login-all", LOGIN_AGAIN, &inputs.alike, CODE_LOGIN, &inputs.idle_empty },
+    { "login-room", LOGIN_OTHER, &inputs.room, CODE_LOGIN, &inputs.idle_empty },
+    { "login-room-zero", FRAME, &inputs.room, CODE_LOGIN, &inputs.idle_empty },
     { "assign", FRAME, &inputs.full, CODE_ASSIGN, &inputs.idle_empty },
     { "lock", FRAME, &inputs.full, CODE_LOCK, &inputs.idle_empty },
     { "unlock", FRAME, &inputs.full, CODE_UNLOCK, &inputs.idle_empty },
@@ -140,6 +145,24 @@ static void disk_frame(struct frame *frame, uint8_t number)
     frame->len = 8;
 }
 
+/* The serial of a login: that of the last station, one that nobody has, or
+ * zero. */
+static const uint8_t *serial_of(const struct bench_case *c)
+{
+    static const uint8_t zero[4];
+    switch (c->what) {
+    case LOGIN_AGAIN: return inputs.serials[62];
+    case LOGIN_OTHER: return inputs.serials[63];
+    default:          return zero;
+    }
+}
+
+static void login_frame(struct frame *frame, const uint8_t *serial)
+{
+    fill_frame(frame, site_user(&inputs.site, 127), 20);
+    memcpy(frame->bytes + 15, serial, 4);
+}
+
 /* Each look-up goes to the end: the last user, the last partition, a new
  * string for a lock and the last one for an unlock. */
 static void frame_of(const struct bench_case *c, struct frame *frame)
@@ -150,7 +173,7 @@ static void frame_of(const struct bench_case *c, struct frame *frame)
     switch (c->code) {
     case CODE_READ:
     case CODE_WRITE:  disk_frame(frame, number_of(c)); break;
-    case CODE_LOGIN:  fill_frame(frame, site_user(&inputs.site, 127), 20); break;
+    case CODE_LOGIN:  login_frame(frame, serial_of(c)); break;
     case CODE_ASSIGN: fill_frame(frame, site_partition(&inputs.site, 63), 15); break;
     case CODE_LOCK:   fill_frame(frame, inputs.strings[64], 15); break;
     case CODE_UNLOCK: fill_frame(frame, inputs.strings[63], 15); break;
@@ -185,7 +208,9 @@ static uint64_t call_once(const struct side *side, const struct bench_case *c,
     case CHECK_TABLES: return side->check_tables(locks, LOCKS, stations, STATIONS);
     case CHECK_SITE:   return side->check_site(site->bytes, site->len);
     case PLACE:        return side->place(row[14], row[15], 15, 128, site->bytes, site->len);
-    case FRAME:        return side->frame(number_of(c), frame->bytes, frame->len,
+    case FRAME:
+    case LOGIN_AGAIN:
+    case LOGIN_OTHER:  return side->frame(number_of(c), frame->bytes, frame->len,
                                           site->bytes, site->len,
                                           locks, LOCKS, stations, STATIONS);
     case DUE:          return side->due(number_of(c), locks, LOCKS, stations, STATIONS);

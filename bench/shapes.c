@@ -177,6 +177,21 @@ static void make_strings(struct rng *rng, struct inputs *inputs, enum keys keys)
     }
 }
 
+/* Serial i, none of them zero. */
+static void make_serial(struct rng *rng, enum keys keys, uint8_t *serial, unsigned i)
+{
+    memcpy(serial, "SERI", 4);
+    switch (keys) {
+    case NUMBERED: serial[3] = (uint8_t)(i + 1); break;
+    case EARLY:    serial[0] = (uint8_t)(i + 1); break;
+    case LAST:     serial[2] = (uint8_t)(i + 1); break;
+    default:
+        rng_bytes(rng, serial, 3);
+        serial[3] = (uint8_t)(i + 1);
+        break;
+    }
+}
+
 static void serve(struct inputs *inputs, struct tables *tables, uint32_t number,
                   const uint8_t *frame, size_t len)
 {
@@ -193,6 +208,7 @@ static void make_tables(struct inputs *inputs, struct tables *tables,
         memset(frame, 0, sizeof frame);
         frame[0] = CODE_LOGIN;
         memcpy(frame + 1, site_user(&inputs->site, i), 14);
+        memcpy(frame + 15, inputs->serials[i], 4);
         serve(inputs, tables, 253, frame, 20);
     }
     for (unsigned i = 0; i < strings; i++) {
@@ -221,8 +237,14 @@ void shape_inputs(unsigned i, struct inputs *inputs)
     struct rng rng = rng_from(1982 + i);
     make_site(&rng, &inputs->site, made[i].keys, made[i].rows);
     make_strings(&rng, inputs, made[i].keys);
+    for (unsigned k = 0; k < 64; k++)
+        make_serial(&rng, made[i].keys, inputs->serials[k], k);
     make_tables(inputs, &inputs->empty, 1, 0);
+    make_tables(inputs, &inputs->room, 62, 63);
     make_tables(inputs, &inputs->full, 63, 64);
+    inputs->alike = inputs->full;
+    for (unsigned number = 1; number < 64; number++)
+        memcpy(inputs->alike.stations + 18 * number + 12, inputs->serials[62], 4);
     inputs->last = inputs->full;
     inputs->last.stations[63 * 18 + 1] = 255;
     inputs->last.stations[63 * 18 + 3] = 11;

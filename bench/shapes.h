@@ -1,7 +1,8 @@
 /*
  * The inputs of the bench: the largest site file, full tables and a station's
  * state, in several shapes. A shape says how keys (lock strings, user names,
- * partition names) look beside each other, and how the partition rows lie.
+ * partition names, serials) look beside each other, and how the partition rows
+ * lie.
  */
 #ifndef SHAPES_H
 #define SHAPES_H
@@ -24,11 +25,14 @@ struct inputs {
     struct tables empty;        /* station 1, no locks */
     struct tables full;         /* 63 stations, 64 locks */
     struct tables last;         /* full, and station 63 at its last turn */
+    struct tables alike;        /* full, and all have the serial of station 63 */
+    struct tables room;         /* 62 stations, 63 locks */
     struct state idle_empty;    /* waits for nothing, lists none */
     struct state idle_full;     /* waits for nothing, lists 64 */
     struct state waits_empty;   /* waits for a lock, lists none */
     struct state waits_full;    /* waits for a lock, lists 63 */
     uint8_t strings[65][14];    /* the strings of the locks, and one more */
+    uint8_t serials[64][4];     /* the serials from station 1 on, and one more */
 };
 
 enum { SHAPES = 9 };

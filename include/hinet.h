@@ -92,10 +92,10 @@
 /* The version of this header and of the archive beside it. The first number
  * goes up where a program that kept to the header may have to be changed, the
  * second where something new can be called. */
-#define HINET_VERSION_MAJOR 2
+#define HINET_VERSION_MAJOR 3
 #define HINET_VERSION_MINOR 0
 #define HINET_VERSION_PATCH 0
-#define HINET_VERSION "2.0.0"
+#define HINET_VERSION "3.0.0"
 
 #ifdef __cplusplus
 extern "C" {
@@ -618,7 +618,7 @@ static inline uint32_t hinet_answer_place_sector(uint64_t answer)
     return (uint32_t)(answer >> 24 & 0xFFFFFFFFu);
 }
 
-/* Kind LOGIN: the user number given, 0 when 63 are in use. */
+/* Kind LOGIN: the user number given, 0 when none is free. */
 static inline uint8_t hinet_answer_login_number(uint64_t answer)
 {
     return hinet_answer_byte(answer, 0);
@@ -731,10 +731,18 @@ uint64_t hinet_check_site(const uint8_t *site, size_t site_len);
  *   acknowledge  none (0); nothing changes.
  *   read, write  PLACE; nothing changes. The C program moves the 128 bytes,
  *                which way hinet_request_code(frame) tells.
- *   login        LOGIN. The lowest free number from 1 to 63 is logged in
+ *   login        LOGIN. First every number from 1 to 63 that is logged in
+ *                with the sent serial is logged out: its rows are freed and
+ *                its record is cleared. All four bytes of the serial count,
+ *                and nothing else. Serial 00 00 00 00 logs nobody out.
+ *                Then the lowest free number from 1 to 63 is logged in
  *                with the sent name, serial and product. The C program adds
- *                the login time. With 63 in use the number is 0, name found
- *                is 0 and nothing changes; this is an answer, no refusal.
+ *                the login time. Where somebody was logged out, the number
+ *                given is the lowest of those, or a lower one. Who was logged
+ *                out is not in the answer; see the poll turns.
+ *                With 63 in use, and nobody to log out, the number is 0, name
+ *                found is 0 and nothing changes; this is an answer, no
+ *                refusal.
  *   assign       ASSIGN of the row with that name, if its password is equal
  *                or the sent one is six zeros. Otherwise FF 00 00 00; this
  *                is an answer, no refusal. Nothing changes.
@@ -746,8 +754,8 @@ uint64_t hinet_check_site(const uint8_t *site, size_t site_len);
  *   clear        STATUS 00. Every row of the sender is freed.
  *   logout       none (0). The sender's rows are freed and its record is
  *                cleared.
- * A frame leaves misses and slow turns alone, except that login and logout
- * set both to 0.
+ * A frame leaves misses and slow turns alone, except that both are 0 after it
+ * at a number that it logs in or out.
  */
 uint64_t hinet_frame(uint32_t number,
                      const uint8_t *frame, size_t frame_len,
@@ -786,6 +794,12 @@ uint64_t hinet_place(hinet_volume volume, hinet_partition partition,
  *      refused.
  * Then 253 is polled for logins, and only hinet_frame is called.
  * tests/worked_loop.c is such a loop.
+ *
+ * A login may log other numbers out: those that had its serial. No turn says
+ * so, and the answer does not list them. Keep no list of your own of who is
+ * in: ask hinet_record_logged_in before each turn, as a number that is out is
+ * refused 2. What the program keeps for a station beside the tables is void
+ * where its number is out, and at the number given, which may be its old one.
  *
  * An exchange is a poll, the station's frame and the master's answer, and it
  * ends at the time-out. The master's driver sends the answer in it or never,
@@ -863,6 +877,11 @@ uint64_t hinet_poll(uint32_t number, uint32_t heard,
  * While it waits it may also acknowledge, read, write or assign. It sends a
  * logout only while it waits for nothing, and then it stops. A login that is
  * answered with number 0 logs nobody in.
+ *
+ * A station that logs in again with its serial, as after a reset, has left its
+ * old number: the master has logged that out and freed its locks. The old list
+ * and the old wait are void. With serial 00 00 00 00 the old number stays in
+ * and keeps its locks until its silence logs it out.
  *
  * A reply counts only in the exchange of its own frame. A status byte does
  * not say which frame it answers: one that comes late, after the time-out, is

@@ -296,6 +296,8 @@ static void grid_of_faults(uint8_t code, uint32_t number)
             frame_good(&rng, &frame, code, number, &site);
             if (disk)
                 set_address(kind);
+            if (code == CODE_LOGIN && rng_one_in(&rng, 2))
+                login_again(&rng, &frame, desk.ref_stations);
             frame_spoil(&rng, &frame, faults);
             desk_frame(number, &frame);
         }
@@ -520,6 +522,8 @@ static void run_from_fresh(unsigned steps)
         if (rng_one_in(&rng, 100)) {
             memcpy(tables.stations, desk.ref_stations, sizeof tables.stations);
             stations_aged(&rng, tables.stations);
+            if (rng_one_in(&rng, 3))
+                stations_alike(&rng, tables.stations);
             desk_put_stations(tables.stations);
         }
         uint32_t number = next_frame(&rng, mood, &site, desk.ref_locks, desk.ref_stations, &frame);

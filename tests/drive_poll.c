@@ -145,8 +145,8 @@ static int due_in_turn(unsigned turn)
     return turn <= 160 || (turn >= 172 && (turn - 172) % 12 == 0);
 }
 
-/* A station heard in one turn, if due then, and silent from there on. */
-static void silent_from(unsigned heard_in)
+/* A station logs in among others and asks for a lock; its number. */
+static uint8_t new_station(void)
 {
     tables_played(&rng, &tables, rng_below(&rng, 62), rng_below(&rng, 30));
     desk_put_tables(&tables);
@@ -156,6 +156,19 @@ static void silent_from(unsigned heard_in)
     uint8_t number = hinet_answer_login_number(desk_frame(253, &frame));
     frame_good(&rng, &frame, CODE_LOCK, number, &site);
     desk_frame(number, &frame);
+    return number;
+}
+
+static void no_lock_of(uint8_t number)
+{
+    for (unsigned i = 0; i < 64; i++)
+        expect(hinet_row_owner(desk.locks.bytes, i) != number, "a lock of a station that is out");
+}
+
+/* A station heard in one turn, if due then, and silent from there on. */
+static void silent_from(unsigned heard_in)
+{
+    uint8_t number = new_station();
     for (unsigned turn = 1; turn <= heard_in; turn++)
         poll_turn(number, turn == heard_in);
     for (unsigned turn = 1; turn <= 1312; turn++) {
@@ -163,8 +176,7 @@ static void silent_from(unsigned heard_in)
         expect(hinet_answer_due(answer) == due_in_turn(turn), "a turn due or not");
         expect(hinet_answer_out(answer) == (turn == 1312), "out before or after turn 1312");
     }
-    for (unsigned i = 0; i < 64; i++)
-        expect(hinet_row_owner(desk.locks.bytes, i) != number, "a lock of a station that is out");
+    no_lock_of(number);
     poll_turn(number, 0);
     expect_refusal(2);
 }
@@ -174,6 +186,62 @@ static void silent_stations(void)
     static const unsigned heard_in[] = { 1, 2, 159, 160, 172, 184, 1300 };
     silent_from(0);
     silent_from(RNG_PICK(&rng, heard_in));
+}
+
+/* ---- a station that starts again ---- */
+
+/* A lower number than this is free from now on, if there is one. */
+static void free_lower(uint8_t number)
+{
+    if (number == 1)
+        return;
+    uint8_t lower = (uint8_t)(1 + rng_below(&rng, number - 1u));
+    frame_good(&rng, &frame, CODE_LOGOUT, lower, &site);
+    desk_frame(lower, &frame);
+    expect_refusal(0);
+}
+
+/* The login of the station with this number, once more; its number then. */
+static uint8_t log_in_again(uint8_t number)
+{
+    frame_good(&rng, &frame, CODE_LOGIN, 253, &site);
+    memcpy(frame.bytes + 15, hinet_record_serial(desk.stations.bytes, number), 4);
+    return hinet_answer_login_number(desk_frame(253, &frame));
+}
+
+/* A station that was silent for some turns starts again. It is due as after any
+ * login, and its old number has no turn any more. With serial zero the old
+ * number stays and its silence goes on. */
+static void starts_again_after(unsigned silent)
+{
+    static const uint8_t zero[4];
+    uint8_t old = new_station();
+    int stays = memcmp(hinet_record_serial(desk.stations.bytes, old), zero, 4) == 0;
+    for (unsigned turn = 1; turn <= silent; turn++)
+        poll_turn(old, 0);
+    unsigned misses = hinet_record_misses(desk.stations.bytes, old);
+    if (rng_one_in(&rng, 2))
+        free_lower(old);
+    uint8_t number = log_in_again(old);
+    no_lock_of(number);
+    if (!stays)
+        no_lock_of(old);
+    expect(number != 0 && (stays ? number != old : number <= old), "number given");
+    if (stays)
+        expect(hinet_record_misses(desk.stations.bytes, old) == misses, "misses of serial zero");
+    if (number != old) {
+        poll_turn(old, 0);
+        expect_refusal(stays ? 0 : 2);
+    }
+    for (unsigned turn = 1; turn <= 161; turn++)
+        expect(hinet_answer_due(poll_turn(number, 0)) == due_in_turn(turn), "a turn due or not");
+}
+
+static void stations_start_again(void)
+{
+    static const unsigned silent[] = { 0, 1, 159, 160, 161, 171, 172, 1311 };
+    starts_again_after(0);
+    starts_again_after(RNG_PICK(&rng, silent));
 }
 
 /* ---- turns mixed with frames ---- */
@@ -227,6 +295,7 @@ int main(int argc, char **argv)
         numbers();
         polls_on_damage();
         silent_stations();
+        stations_start_again();
         mixed(20000);
     }
     return report(ENTRY_DUE, ENTRY_POLL);

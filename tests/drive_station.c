@@ -289,6 +289,7 @@ enum { STATIONS = 6 };
 
 static struct member {
     struct station station;
+    uint8_t serial[4];          /* zero or its own */
     uint8_t number;             /* 0: not logged in */
 } members[STATIONS];
 
@@ -298,6 +299,7 @@ static void log_in(struct member *m)
 {
     struct frame frame;
     frame_good(&rng, &frame, CODE_LOGIN, 253, &no_rows);
+    memcpy(frame.bytes + 15, m->serial, 4);
     uint64_t answer = desk_frame(253, &frame);
     expect(hinet_answer_kind(answer) == HINET_KIND_LOGIN, "kind of a login");
     m->number = hinet_answer_login_number(answer);
@@ -379,13 +381,24 @@ static void list_agrees(const struct member *m)
         expect(held_count(m->number) == count, "held and not listed");
 }
 
+/* A reset: the login frees the locks of the old number. With serial zero it
+ * would not, and the old number is logged out before. */
+static void start_again(struct member *m)
+{
+    static const uint8_t zero[4];
+    uint8_t old = m->number;
+    if (memcmp(m->serial, zero, 4) == 0)
+        log_out(old);
+    log_in(m);
+    expect(held_count(old) == 0, "a lock from before the reset");
+}
+
 static void member_step(struct member *m)
 {
     if (m->number == 0) {
         log_in(m);
     } else if (rng_one_in(&rng, 300)) {
-        log_out(m->number);             /* a reset; the old number goes */
-        m->number = 0;
+        start_again(m);
     } else if (!waiting(m) && rng_one_in(&rng, 100)) {
         log_out(m->number);
         m->number = 0;
@@ -420,6 +433,8 @@ static void network(unsigned steps)
     state.len = STATE_LEN;
     for (unsigned i = 0; i < STATIONS; i++) {
         put_state(&members[i].station, &state);
+        memset(members[i].serial, 0, 4);
+        members[i].serial[3] = (uint8_t)(i < 2 ? 0 : i);
         members[i].number = 0;
     }
     for (unsigned i = 0; i < steps; i++) {

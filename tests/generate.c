@@ -1,4 +1,4 @@
-/* Random numbers and lock strings. */
+/* Random numbers, lock strings and serials. */
 #include "generate.h"
 
 #include <stdio.h>
@@ -118,4 +118,29 @@ void any_string(struct rng *rng, uint8_t string[14])
     legal_string(rng, string);
     if (rng_one_in(rng, 12))
         string[0] = RNG_PICK(rng, bad);
+}
+
+/* ---- serials ---- */
+
+/* Zero, one serial, and others that differ from it in one byte, or in its
+   order, or begin or end with zeros. */
+void pool_serial(unsigned i, uint8_t serial[4])
+{
+    static const uint8_t pool[SERIALS][4] = {
+        { 0, 0, 0, 0 }, { 1, 2, 3, 4 },
+        { 0x81, 2, 3, 4 }, { 1, 3, 3, 4 }, { 1, 2, 0x43, 4 }, { 1, 2, 3, 5 },
+        { 4, 3, 2, 1 }, { 0, 2, 0, 0 },
+        { 0, 2, 3, 4 }, { 0, 0, 3, 4 }, { 0, 0, 0, 4 }, { 0, 0, 3, 0 },
+        { 1, 2, 3, 0 }, { 1, 2, 0, 0 }, { 1, 0, 0, 0 }, { 0xFF, 0xFF, 0xFF, 0xFF }
+    };
+    memcpy(serial, pool[i], 4);
+}
+
+void any_serial(struct rng *rng, uint8_t serial[4])
+{
+    switch (rng_below(rng, 4)) {
+    case 0:  memset(serial, 0, 4); break;
+    case 1:  pool_serial(rng_below(rng, SERIALS), serial); break;
+    default: rng_bytes(rng, serial, 4); break;
+    }
 }

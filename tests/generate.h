@@ -143,6 +143,17 @@ void legal_string(struct rng *rng, uint8_t string[14]);
 void any_string(struct rng *rng, uint8_t string[14]);
 void stray_bytes(struct rng *rng, uint8_t string[14]);
 
+/* A serial from a small pool of look-alikes; the first is zero. */
+enum { SERIALS = 16 };
+void pool_serial(unsigned i, uint8_t serial[4]);
+
+/* Zero, a serial of the pool, or any. */
+void any_serial(struct rng *rng, uint8_t serial[4]);
+
+/* Gives a login the serial of somebody who is in, now and then with a byte
+ * changed. */
+void login_again(struct rng *rng, struct frame *frame, const uint8_t *stations);
+
 /* What a run of frames is mostly about. */
 enum mood {
     MOOD_MIXED, MOOD_LOGINS, MOOD_LOCKS, MOOD_CHURN, MOOD_DISK, MOOD_LEAVE,
@@ -169,18 +180,30 @@ struct tables {
     uint8_t stations[TABLE_ROOM];
 };
 
-/* Good tables, reached by logins, locks, unlocks and logouts from fresh. */
+/* Good tables with so many stations and so many locks, reached by logins and
+ * locks from fresh. */
 void tables_played(struct rng *rng, struct tables *tables,
                    unsigned logins, unsigned strings);
+
+/* Good tables of random counts, with unlocks and logouts too; now and then one
+ * serial is at several numbers. */
 void tables_any(struct rng *rng, struct tables *tables);
 
 /* Legal misses and slow turns for those logged in. */
 void stations_aged(struct rng *rng, uint8_t *stations);
 
+/* A few serials of the pool for those logged in. No run of logins gives one
+ * serial to several numbers, but for zero; good tables may hold it. */
+void stations_alike(struct rng *rng, uint8_t *stations);
+
+/* The tables when a number has logged out. */
+void tables_without(struct tables *tables, unsigned number);
+
 /* Good tables that stand just inside one limit. */
 enum tables_limit {
     LIMIT_MISSES_255_SLOW_11, LIMIT_MISSES_160, LIMIT_MISSES_159,
-    LIMIT_LENGTH_13, LIMIT_PREFIX, LIMIT_ZERO_STRINGS, LIMIT_ROWS_64,
+    LIMIT_LENGTH_13, LIMIT_PREFIX, LIMIT_ZERO_STRINGS, LIMIT_SERIALS_SHARED,
+    LIMIT_ROWS_64,
     TABLES_LIMITS
 };
 void tables_at_limit(struct rng *rng, struct tables *tables, enum tables_limit limit);

@@ -90,7 +90,8 @@ void frame_good(struct rng *rng, struct frame *frame, uint8_t code,
         break;
     case CODE_LOGIN:
         draw_name(rng, any_user(rng, site), bytes + 1);
-        rng_bytes(rng, bytes + 15, 5);
+        any_serial(rng, bytes + 15);
+        bytes[19] = rng_byte(rng);
         frame->len = 20;
         break;
     case CODE_ASSIGN:
@@ -145,6 +146,14 @@ uint32_t number_logged_in(struct rng *rng, const uint8_t *stations)
         if (stations[18 * number] == 1)
             numbers[count++] = number;
     return count == 0 ? 0 : numbers[rng_below(rng, count)];
+}
+
+void login_again(struct rng *rng, struct frame *frame, const uint8_t *stations)
+{
+    uint8_t *serial = frame->bytes + 15;
+    memcpy(serial, stations + 18 * number_logged_in(rng, stations) + 12, 4);
+    if (rng_one_in(rng, 4))
+        serial[rng_below(rng, 4)] ^= rng_nonzero(rng);
 }
 
 uint32_t number_any(struct rng *rng)
@@ -207,6 +216,8 @@ uint32_t next_frame(struct rng *rng, enum mood mood, const struct site *site,
     frame_good(rng, frame, code, number, site);
     if ((code == CODE_LOCK || code == CODE_UNLOCK) && rng_one_in(rng, 3))
         number = towards_held(rng, frame, locks, number);
+    if (code == CODE_LOGIN && rng_one_in(rng, 3))
+        login_again(rng, frame, stations);
     if (rng_one_in(rng, odd))
         frame_spoil(rng, frame, 1u << rng_below(rng, 6));
     if (mood == MOOD_FAULTS && rng_one_in(rng, 4))

@@ -6,7 +6,7 @@
 
 enum {
     ROWS = 64, ROW = 16, RECORDS = 64, RECORD = 18,
-    MISSES = 1, SLOW = 3, FOUND = 17, FREE = 0xFF
+    MISSES = 1, SLOW = 3, SERIAL = 12, FOUND = 17, FREE = 0xFF
 };
 
 static uint8_t *row_at(struct tables *tables, unsigned i)
@@ -45,6 +45,14 @@ static unsigned used_rows(struct tables *tables)
     return count;
 }
 
+static unsigned stations_in(struct tables *tables)
+{
+    unsigned count = 0;
+    for (unsigned number = 1; number < RECORDS; number++)
+        count += record_at(tables, number)[0] == 1;
+    return count;
+}
+
 static void set_age(uint8_t *record, unsigned misses, unsigned slow)
 {
     record[MISSES] = (uint8_t)(misses & 0xFF);
@@ -64,6 +72,16 @@ void stations_aged(struct rng *rng, uint8_t *stations)
     }
 }
 
+void stations_alike(struct rng *rng, uint8_t *stations)
+{
+    unsigned first = rng_below(rng, SERIALS);
+    for (unsigned number = 1; number < RECORDS; number++) {
+        uint8_t *record = stations + RECORD * number;
+        if (record[0] == 1)
+            pool_serial((first + rng_below(rng, 4)) % SERIALS, record + SERIAL);
+    }
+}
+
 void tables_played(struct rng *rng, struct tables *tables,
                    unsigned logins, unsigned strings)
 {
@@ -72,8 +90,10 @@ void tables_played(struct rng *rng, struct tables *tables,
     tables->locks_len = ROWS * ROW;
     tables->stations_len = RECORDS * RECORD;
     ref_fresh(tables->locks, tables->locks_len, tables->stations, tables->stations_len);
-    for (unsigned i = 0; i < logins; i++)
+    while (stations_in(tables) < logins) {
+        try_again(&tries, "logins that are served");
         play_code(rng, tables, CODE_LOGIN);
+    }
     while (used_rows(tables) < strings) {
         try_again(&tries, "locks that are granted");
         play_code(rng, tables, CODE_LOCK);
@@ -93,6 +113,8 @@ void tables_any(struct rng *rng, struct tables *tables)
         play_code(rng, tables, CODE_UNLOCK);
         play_code(rng, tables, rng_one_in(rng, 2) ? CODE_LOGOUT : CODE_LOCK);
     }
+    if (rng_one_in(rng, 3))
+        stations_alike(rng, tables->stations);
 }
 
 /* ---- rows and records of a kind, for tables that have them ---- */
@@ -138,11 +160,24 @@ static void set_row(uint8_t *row, unsigned owner, const uint8_t string[14])
     row[15] = 0;
 }
 
-static void free_all_rows(struct tables *tables)
+static void free_row_at(struct tables *tables, unsigned i)
 {
     static const uint8_t zeros[14];
+    set_row(row_at(tables, i), FREE, zeros);
+}
+
+static void free_all_rows(struct tables *tables)
+{
     for (unsigned i = 0; i < ROWS; i++)
-        set_row(row_at(tables, i), FREE, zeros);
+        free_row_at(tables, i);
+}
+
+void tables_without(struct tables *tables, unsigned number)
+{
+    for (unsigned i = 0; i < ROWS; i++)
+        if (row_at(tables, i)[0] == number)
+            free_row_at(tables, i);
+    memset(record_at(tables, number), 0, RECORD);
 }
 
 /* ---- at a limit ---- */
@@ -174,6 +209,7 @@ void tables_at_limit(struct rng *rng, struct tables *tables, enum tables_limit l
         break;
     case LIMIT_PREFIX:              fill_family(rng, tables, 0); break;
     case LIMIT_ZERO_STRINGS:        fill_family(rng, tables, 1); break;
+    case LIMIT_SERIALS_SHARED:      stations_alike(rng, tables->stations); break;
     default:                        tables_played(rng, tables, rng_below(rng, 64), ROWS); break;
     }
 }
@@ -196,16 +232,6 @@ static void damage_size(struct tables *tables, enum tables_damage damage)
     }
 }
 
-/* User 0 logged out, with no lock in its name. */
-static void local_out(struct tables *tables)
-{
-    static const uint8_t zeros[14];
-    for (unsigned i = 0; i < ROWS; i++)
-        if (row_at(tables, i)[0] == 0)
-            set_row(row_at(tables, i), FREE, zeros);
-    record_at(tables, 0)[0] = 0;
-}
-
 static void damage_record(struct rng *rng, struct tables *tables, enum tables_damage damage)
 {
     uint8_t *record = record_at(tables, station(rng, tables, 1));
@@ -222,8 +248,8 @@ static void damage_record(struct rng *rng, struct tables *tables, enum tables_da
     case LOGGED_IN_255: out[0] = 255; break;
     case FOUND_2:       record[FOUND] = 2; break;
     case FOUND_255:     record[FOUND] = 255; break;
-    case LOCAL_OUT:     local_out(tables); break;
-    case LOCAL_IN_2:    local_out(tables); local[0] = 2; break;
+    case LOCAL_OUT:     tables_without(tables, 0); break;
+    case LOCAL_IN_2:    tables_without(tables, 0); local[0] = 2; break;
     case LOCAL_TRACE:   local[1 + rng_below(rng, RECORD - 1)] = 1; break;
     default:            out[1 + rng_below(rng, RECORD - 1)] = 1; break;
     }

@@ -152,10 +152,10 @@ static void table_constants(void)
 
 static void version(void)
 {
-    SAME(HINET_VERSION_MAJOR, 2);
+    SAME(HINET_VERSION_MAJOR, 3);
     SAME(HINET_VERSION_MINOR, 0);
     SAME(HINET_VERSION_PATCH, 0);
-    SAME(strcmp(HINET_VERSION, "2.0.0"), 0);
+    SAME(strcmp(HINET_VERSION, "3.0.0"), 0);
 }
 
 /* ---- types ---- */
@@ -385,7 +385,7 @@ static void entries_of_frames(void)
 }
 
 /* A partition of volume 1, number 0, size 1, first sector 2048; numbers above
- * 255 are not cut to a byte. */
+ * 255 are not cut to a byte. A second login with one serial has its number. */
 static void entries_of_the_master(void)
 {
     static const uint8_t site[32] = { 0, 0, 8, 0, 1, 0, 8, 0,
@@ -399,6 +399,8 @@ static void entries_of_the_master(void)
     SAME(hinet_place(hinet_volume_of(1), hinet_partition_of(0), hinet_track_of(15),
                      hinet_sector_of(128), site, 32), UINT64_C(0x00000FFF010300));
     hinet_write_login(name, password, serial, 9, frame, 20);
+    SAME(hinet_frame(253, (const uint8_t *)frame, 20, site, 32, locks, 1024, stations, 1152),
+         UINT64_C(0x7856341200010400));
     SAME(hinet_frame(253, (const uint8_t *)frame, 20, site, 32, locks, 1024, stations, 1152),
          UINT64_C(0x7856341200010400));
     SAME(hinet_frame(509, (const uint8_t *)frame, 20, site, 32, locks, 1024, stations, 1152), 2);

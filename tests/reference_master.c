@@ -62,11 +62,25 @@ static uint8_t free_number(const uint8_t *stations)
     return 0;
 }
 
+/* Logs out every number from 1 to 63 with this serial; for serial 00 00 00 00
+ * nobody. */
+static void log_out_serial(const uint8_t *serial, uint8_t *locks, uint8_t *stations)
+{
+    if (ref_all_zero(serial, 4))
+        return;
+    for (uint8_t number = 1; number < USERS; number++)
+        if (ref_logged_in(stations, number)
+            && memcmp(stations + RECORD * number + SERIAL, serial, 4) == 0)
+            ref_log_out(locks, stations, number);
+}
+
 /* Frame: code, name 8, password 6, serial 4, product. */
-static uint64_t login(const uint8_t *frame, const uint8_t *site, uint8_t *stations)
+static uint64_t login(const uint8_t *frame, const uint8_t *site,
+                      uint8_t *locks, uint8_t *stations)
 {
     const uint8_t *name = frame + 1, *password = frame + 9, *serial = frame + 15;
     uint8_t product = frame[19];
+    log_out_serial(serial, locks, stations);
     uint8_t number = free_number(stations);
     uint8_t found = 0;
     if (number != 0) {
@@ -152,7 +166,7 @@ static uint64_t act(uint8_t number, const uint8_t *frame, const uint8_t *site,
     case WRITE:
         return read_or_write(frame, site);
     case LOGIN:
-        return login(frame, site, stations);
+        return login(frame, site, locks, stations);
     case ASSIGN:
         return assign(frame, site);
     case LOCK:

@@ -1,12 +1,14 @@
 /*
  * A worked example: the main loop of a box, over a made-up wire with three
  * stations. One of them falls silent. In which turns it is then polled, and
- * when it is logged out, only the library knows.
+ * when it is logged out, only the library knows. Another one is reset and logs
+ * in again: its old number is then out without a turn that says so.
  */
 #include "hinet.h"
 
 #include <stdio.h>
 #include <stdlib.h>
+#include <string.h>
 
 static uint8_t locks[HINET_LOCKS_BYTES];
 static uint8_t stations[HINET_STATIONS_BYTES];
@@ -26,25 +28,51 @@ static void tell(uint32_t number, const char *what)
 
 /* ---- the made-up wire ---- */
 
-static unsigned logged_in;      /* stations 1 to 3 log in one after another */
-static int over;                /* station 2 has what it wants */
+enum { RESET = 1320 };          /* the round in which the second station is reset */
 
-/* Polls a number: the length of the frame heard before the time-out, or 0.
- * Stations 1 and 2 want the same lock, station 3 wants to read. */
+/* The serials of the logins, in their order. The last one is the second
+ * station's again. */
+static const uint8_t serials[][HINET_SERIAL_BYTES] = {
+    { 0x12, 0x34, 0x56, 0x01 }, { 0x12, 0x34, 0x56, 0x02 }, { 0x12, 0x34, 0x56, 0x03 },
+    { 0x12, 0x34, 0x56, 0x02 }
+};
+static unsigned logins;         /* so many of them were answered */
+static int over;                /* the third station has the lock */
+
+static int wants_login(void)
+{
+    return logins < 3 || (logins == 3 && rounds == RESET);
+}
+
+/* The stations at 1 and 2 want the same lock, that at 3 wants it later. */
+static int wants_lock(uint32_t number)
+{
+    switch (number) {
+    case 1:  return rounds <= 3;
+    case 2:  return rounds < RESET;
+    case 3:  return rounds > 1316;
+    default: return 0;
+    }
+}
+
+/* Polls a number: the length of the frame heard before the time-out, or 0. The
+ * third station wants to read before it wants the lock; the second, after its
+ * reset, only acknowledges. */
 static size_t wire_poll(uint32_t number, uint8_t *frame, size_t len)
 {
     static const uint8_t name[HINET_NAME_BYTES] = { 'B', 'E', 'T', 'T', 'Y', ' ', ' ', ' ' };
     static const uint8_t password[HINET_PASSWORD_BYTES] = { 'S', 'E', 'C', 'R', 'E', 'T' };
-    static const uint8_t serial[HINET_SERIAL_BYTES] = { 0x12, 0x34, 0x56, 0x78 };
     static const uint8_t stock[HINET_LOCKSTRING_BYTES] = { 5, 'S', 'T', 'O', 'C', 'K' };
     uint64_t written = 0;
-    if (number == HINET_NUMBER_LOGIN && logged_in < 3)
-        written = hinet_write_login(name, password, serial, 5, frame, len);
-    else if (number == 2 || (number == 1 && rounds <= 3))
+    if (number == HINET_NUMBER_LOGIN && wants_login())
+        written = hinet_write_login(name, password, serials[logins], 5, frame, len);
+    else if (wants_lock(number))
         written = hinet_write_lock(stock, frame, len);
     else if (number == 3)
         written = hinet_write_read(number, hinet_volume_of(1), hinet_partition_of(0),
                                    hinet_track_of(15), hinet_sector_of(128), frame, len);
+    else if (number == 1 && rounds > RESET)
+        written = hinet_write_acknowledge(frame, len);
     return hinet_answer_length(written);
 }
 
@@ -58,7 +86,7 @@ static int wire_waits(uint32_t number)
 static void wire_status(uint32_t number, uint8_t status)
 {
     switch (status) {
-    case HINET_STATUS_DONE:  tell(number, "gets the lock"); over = 1; break;
+    case HINET_STATUS_DONE:  tell(number, "gets the lock"); over = number == 3; break;
     case HINET_STATUS_HELD:  tell(number, "has the lock already"); break;
     case HINET_STATUS_TAKEN: tell(number, "another has the lock"); break;
     default:                 tell(number, "no such status"); exit(1);
@@ -69,9 +97,12 @@ static void wire_status(uint32_t number, uint8_t status)
 static void wire_send(uint32_t number, uint64_t answer)
 {
     switch (hinet_answer_kind(answer)) {
+    case HINET_KIND_NONE:
+        tell(number, "acknowledges");
+        break;
     case HINET_KIND_LOGIN:
-        logged_in = hinet_answer_login_number(answer);
-        tell(logged_in, "logs in");
+        logins++;
+        tell(hinet_answer_login_number(answer), "logs in");
         break;
     case HINET_KIND_STATUS:
         wire_status(number, hinet_answer_status(answer));
@@ -97,6 +128,18 @@ static void serve(uint32_t number, const uint8_t *frame, size_t len)
         tell(number, "the answer is late and is dropped");
 }
 
+/* Serves a login. It may log other numbers out, and its answer does not say
+ * which; the records do. An old number that is given again is in the answer. */
+static void serve_login(const uint8_t *frame, size_t len)
+{
+    uint8_t before[HINET_STATIONS_BYTES];
+    memcpy(before, stations, sizeof before);
+    serve(HINET_NUMBER_LOGIN, frame, len);
+    for (uint32_t number = 1; number <= HINET_NUMBER_LAST; number++)
+        if (hinet_record_logged_in(before, number) && !hinet_record_logged_in(stations, number))
+            tell(number, "is logged out by that");
+}
+
 /* A turn of a station that is logged in. What hinet_due refuses, hinet_poll
  * refuses too. */
 static void turn(uint32_t number)
@@ -118,6 +161,7 @@ static void turn(uint32_t number)
         serve(number, frame, len);
 }
 
+/* Who is in is asked of the records in each round, and kept nowhere else. */
 int main(void)
 {
     uint8_t frame[HINET_LENGTH_MOST];
@@ -128,7 +172,7 @@ int main(void)
                 turn(number);
         size_t len = wire_poll(HINET_NUMBER_LOGIN, frame, sizeof frame);
         if (len != 0)
-            serve(HINET_NUMBER_LOGIN, frame, len);
+            serve_login(frame, len);
     }
     return 0;
 }
