@@ -1,0 +1,4 @@
+pub mod TableLaws
+pub mod BlockLaws
+pub mod FigureLaws
+pub mod AnswerLaws

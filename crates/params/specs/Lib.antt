@@ -1,0 +1,4 @@
+pub mod Tables
+pub mod Blocks
+pub mod Figures
+pub mod Answers
