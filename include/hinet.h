@@ -79,6 +79,7 @@
  *     hinet_check_tables, hinet_due, hinet_station_lock          304
  *     hinet_station_clear                                        272
  *     hinet_write_...                                            120
+ *     hinet_cpm_parameters, hinet_msdos_parameters               116
  *     hinet_read_frame                                           112
  *     hinet_fresh                                                 40
  *     hinet_station_fresh                                         24
@@ -93,9 +94,9 @@
  * goes up where a program that kept to the header may have to be changed, the
  * second where something new can be called. */
 #define HINET_VERSION_MAJOR 3
-#define HINET_VERSION_MINOR 0
+#define HINET_VERSION_MINOR 1
 #define HINET_VERSION_PATCH 0
-#define HINET_VERSION "3.0.0"
+#define HINET_VERSION "3.1.0"
 
 #ifdef __cplusplus
 extern "C" {
@@ -122,9 +123,10 @@ extern "C" {
 #define HINET_REFUSED_TABLES 11     /* tables or station state of another size
                                        or with a breach */
 #define HINET_REFUSED_NOT_DUE 12    /* heard in a turn that was not due */
-#define HINET_REFUSED_BUFFER 13     /* buffer too short for the frame */
+#define HINET_REFUSED_BUFFER 13     /* buffer too short for the frame or block */
 #define HINET_REFUSED_WAITING 14    /* station asks while waiting */
 #define HINET_REFUSED_REPLY 15      /* reply not fitting: hinet_station_reply */
+#define HINET_REFUSED_SIZE 16       /* size code is not 1 to 6 */
 
 /* Kinds of answer, with their bytes. */
 #define HINET_KIND_NONE 0           /* no bytes */
@@ -174,9 +176,10 @@ static inline const char *hinet_refusal_text(unsigned refusal)
     case HINET_REFUSED_SITE:     return "the site file breaks a rule";
     case HINET_REFUSED_TABLES:   return "the tables or the station's state break a rule";
     case HINET_REFUSED_NOT_DUE:  return "heard in a turn that was not due";
-    case HINET_REFUSED_BUFFER:   return "the buffer is too short for the frame";
+    case HINET_REFUSED_BUFFER:   return "the buffer is too short for the frame or block";
     case HINET_REFUSED_WAITING:  return "the station asks while it waits for a reply";
     case HINET_REFUSED_REPLY:    return "the reply does not fit what the station waits for";
+    case HINET_REFUSED_SIZE:     return "the size code is not 1 to 6";
     default:                     return "no refusal number";
     }
 }
@@ -418,7 +421,7 @@ uint64_t hinet_write_clear(uint8_t *buffer, size_t buffer_len);
 
 uint64_t hinet_write_logout(uint32_t src, uint8_t *buffer, size_t buffer_len);
 
-/* Kind WRITTEN: the length of the frame written. */
+/* Kind WRITTEN: the length of the frame or block written. */
 static inline uint8_t hinet_answer_length(uint64_t answer)
 {
     return hinet_answer_byte(answer, 0);
@@ -991,6 +994,176 @@ uint64_t hinet_station_frame(const uint8_t *station, size_t station_len,
  */
 uint64_t hinet_station_reply(uint8_t *station, size_t station_len,
                              uint32_t reply);
+
+/* ------------------------------------------------------------------------
+ * Disk parameters
+ * ------------------------------------------------------------------------
+ *
+ * What a station puts into its disk tables for a partition of each size, as
+ * the makers' protocol paper tables it: CP/M 2.2's disk parameter block, and
+ * MS-DOS 2.0's parameter block (BPB) up to sectors per track. Each block has 15
+ * bytes. Numbers of two bytes have their low byte first.
+ *
+ * The size code is the one that the answer to an assign tells. Look at the
+ * refusal of that answer first: the bytes beside refusal 10 are no answer, and
+ * the first of them could pass for a size code.
+ *
+ *   CP/M 2.2                               MS-DOS 2.0
+ *   0 - 1    SPT  sectors per track        0 - 1    bytes per sector
+ *   2        BSH  block shift              2        sectors per cluster
+ *   3        BLM  block mask               3 - 4    reserved sectors
+ *   4        EXM  extent mask              5        FATs
+ *   5 - 6    DSM  blocks - 1               6 - 7    root directory entries
+ *   7 - 8    DRM  directory entries - 1    8 - 9    sectors
+ *   9, 10    AL0, AL1  directory blocks    10       media byte
+ *   11 - 12  CKS  check vector             11 - 12  sectors per FAT
+ *   13 - 14  OFF  system tracks            13 - 14  sectors per track
+ *
+ * A CP/M sector has 128 bytes, and a block 128 * 2^BSH. Blocks times block
+ * size is the size of the partition; so is MS-DOS's sectors times 128, but for
+ * size code 6: two bytes count 65535 sectors at most, and the partition's last
+ * one is not used. All numbers are as the paper has them, but for DRM of size
+ * 1: it is 63, and the paper prints 163. EXM of size 2 is 0, though CP/M would
+ * allow 1; a disk keeps the one that it was written with. CKS is the tabled
+ * size; a station under HiDos, which keeps no check vectors, puts 0 there.
+ * ./hinet parameters prints all of it.
+ */
+
+#define HINET_SIZE_FIRST 1
+#define HINET_SIZE_LAST 6
+#define HINET_PARAMETERS_BYTES 15
+
+/*
+ * Each of these writes the block of a size code at the start of the buffer.
+ *
+ * Refusals, in this order: 16 the size code is not 1 to 6; no number is cut,
+ *   so 257 is refused, and so is 255, the size of an assign that was denied.
+ *   13 buffer_len is below 15.
+ * Memory: the buffer holds the block; the bytes after it stay.
+ * Answer: WRITTEN with length 15.
+ */
+uint64_t hinet_cpm_parameters(uint32_t size, uint8_t *buffer, size_t buffer_len);
+
+uint64_t hinet_msdos_parameters(uint32_t size, uint8_t *buffer, size_t buffer_len);
+
+/* The number in two bytes of a block, the first of them at `at`. */
+static inline uint16_t hinet_block_two(const uint8_t *block, unsigned at)
+{
+    return (uint16_t)(block[at] | (unsigned)block[at + 1] << 8);
+}
+
+/* Fields of a CP/M block. */
+
+/* Sectors of 128 bytes in a track. */
+static inline uint16_t hinet_cpm_spt(const uint8_t *block)
+{
+    return hinet_block_two(block, 0);
+}
+
+/* Block shift: a block has 128 * 2^BSH bytes. */
+static inline uint8_t hinet_cpm_bsh(const uint8_t *block)
+{
+    return block[2];
+}
+
+/* Block mask: 2^BSH - 1. */
+static inline uint8_t hinet_cpm_blm(const uint8_t *block)
+{
+    return block[3];
+}
+
+/* Extent mask. */
+static inline uint8_t hinet_cpm_exm(const uint8_t *block)
+{
+    return block[4];
+}
+
+/* The last block: blocks - 1. */
+static inline uint16_t hinet_cpm_dsm(const uint8_t *block)
+{
+    return hinet_block_two(block, 5);
+}
+
+/* The last directory entry: entries - 1. */
+static inline uint16_t hinet_cpm_drm(const uint8_t *block)
+{
+    return hinet_block_two(block, 7);
+}
+
+/* Directory blocks: a bit for each of the first 16, the high bit of AL0 for
+ * block 0. */
+static inline uint8_t hinet_cpm_al0(const uint8_t *block)
+{
+    return block[9];
+}
+
+static inline uint8_t hinet_cpm_al1(const uint8_t *block)
+{
+    return block[10];
+}
+
+/* Bytes of the check vector: a quarter of the directory entries. */
+static inline uint16_t hinet_cpm_cks(const uint8_t *block)
+{
+    return hinet_block_two(block, 11);
+}
+
+/* Tracks kept for the operating system. */
+static inline uint16_t hinet_cpm_off(const uint8_t *block)
+{
+    return hinet_block_two(block, 13);
+}
+
+/* Fields of an MS-DOS block. */
+
+static inline uint16_t hinet_msdos_bytes_per_sector(const uint8_t *block)
+{
+    return hinet_block_two(block, 0);
+}
+
+static inline uint8_t hinet_msdos_sectors_per_cluster(const uint8_t *block)
+{
+    return block[2];
+}
+
+static inline uint16_t hinet_msdos_reserved_sectors(const uint8_t *block)
+{
+    return hinet_block_two(block, 3);
+}
+
+/* How many FATs there are. */
+static inline uint8_t hinet_msdos_fats(const uint8_t *block)
+{
+    return block[5];
+}
+
+/* Entries of the root directory. */
+static inline uint16_t hinet_msdos_root_entries(const uint8_t *block)
+{
+    return hinet_block_two(block, 6);
+}
+
+/* Sectors in all. */
+static inline uint16_t hinet_msdos_sectors(const uint8_t *block)
+{
+    return hinet_block_two(block, 8);
+}
+
+/* The media byte. */
+static inline uint8_t hinet_msdos_media(const uint8_t *block)
+{
+    return block[10];
+}
+
+static inline uint16_t hinet_msdos_sectors_per_fat(const uint8_t *block)
+{
+    return hinet_block_two(block, 11);
+}
+
+static inline uint16_t hinet_msdos_sectors_per_track(const uint8_t *block)
+{
+    return hinet_block_two(block, 13);
+}
 
 #ifdef __cplusplus
 }

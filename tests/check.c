@@ -51,10 +51,10 @@ static int unchanged(const struct lent *slice)
 
 /* ---- outcomes ---- */
 
-/* Refusals 1 to 15 have their own numbers as outcomes, but for 10: it has one
+/* Refusals 1 to 16 have their own numbers as outcomes, but for 10: it has one
  * for each kind of fault. */
 enum outcome {
-    FAULT_HEADER = 16, FAULT_USER_NAME,
+    FAULT_HEADER = 17, FAULT_USER_NAME,
     FAULT_RANGE, FAULT_NAME, FAULT_NUMBER, FAULT_OVERLAP,
     NONE,
     STATUS_00, STATUS_01, STATUS_02, STATUS_81, STATUS_82,
@@ -129,7 +129,9 @@ static const struct {
     [ENTRY_STATION_CLEAR] = { "hinet_station_clear", BIT(11) | BIT(14) | BIT(NONE) },
     [ENTRY_STATION_FRAME] = { "hinet_station_frame",
         BIT(11) | BIT(13) | BIT(WRITTEN_0) | BIT(WRITTEN_1) | BIT(WRITTEN_15) },
-    [ENTRY_STATION_REPLY] = { "hinet_station_reply", BIT(11) | BIT(15) | BIT(NONE) }
+    [ENTRY_STATION_REPLY] = { "hinet_station_reply", BIT(11) | BIT(15) | BIT(NONE) },
+    [ENTRY_CPM_PARAMETERS] = { "hinet_cpm_parameters", BIT(16) | BIT(13) | BIT(WRITTEN_15) },
+    [ENTRY_MSDOS_PARAMETERS] = { "hinet_msdos_parameters", BIT(16) | BIT(13) | BIT(WRITTEN_15) }
 };
 
 static unsigned long counts[ENTRIES][OUTCOMES];
@@ -232,7 +234,7 @@ static enum outcome outcome_of(uint64_t answer)
     if (refusal == 10)
         return fault_outcome(answer);
     if (refusal != 0)
-        return refusal <= 15 ? (enum outcome)refusal : OUTCOMES;
+        return refusal < FAULT_HEADER ? (enum outcome)refusal : OUTCOMES;
     switch (answer >> 8 & 0xFF) {
     case 0:  return NONE;
     case 1:  return status_outcome(answer);
@@ -376,7 +378,7 @@ struct rounds rounds_from(int argc, char **argv, unsigned long usual)
 
 static void print_outcome(unsigned outcome, unsigned long count)
 {
-    if (outcome <= 15)
+    if (outcome < FAULT_HEADER)
         printf("  refusal %-19u %10lu\n", outcome, count);
     else
         printf("  %-27s %10lu\n", outcome_names[outcome], count);

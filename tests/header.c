@@ -35,6 +35,8 @@ uint64_t hinet_station_unlock(uint8_t *, size_t, const uint8_t[14]);
 uint64_t hinet_station_clear(uint8_t *, size_t);
 uint64_t hinet_station_frame(const uint8_t *, size_t, uint8_t *, size_t);
 uint64_t hinet_station_reply(uint8_t *, size_t, uint32_t);
+uint64_t hinet_cpm_parameters(uint32_t, uint8_t *, size_t);
+uint64_t hinet_msdos_parameters(uint32_t, uint8_t *, size_t);
 #ifdef __cplusplus
 }
 #endif
@@ -77,6 +79,7 @@ static void refusals_and_kinds(void)
     SAME(HINET_REFUSED_BUFFER, 13);
     SAME(HINET_REFUSED_WAITING, 14);
     SAME(HINET_REFUSED_REPLY, 15);
+    SAME(HINET_REFUSED_SIZE, 16);
     SAME(HINET_KIND_NONE, 0);
     SAME(HINET_KIND_STATUS, 1);
     SAME(HINET_KIND_ASSIGN, 2);
@@ -148,14 +151,17 @@ static void table_constants(void)
     SAME(HINET_STATE_AWAITED, 896);
     SAME(HINET_STATE_AWAITED_BYTES, 15);
     SAME(HINET_STATE_BYTES, 911);
+    SAME(HINET_SIZE_FIRST, 1);
+    SAME(HINET_SIZE_LAST, 6);
+    SAME(HINET_PARAMETERS_BYTES, 15);
 }
 
 static void version(void)
 {
     SAME(HINET_VERSION_MAJOR, 3);
-    SAME(HINET_VERSION_MINOR, 0);
+    SAME(HINET_VERSION_MINOR, 1);
     SAME(HINET_VERSION_PATCH, 0);
-    SAME(strcmp(HINET_VERSION, "3.0.0"), 0);
+    SAME(strcmp(HINET_VERSION, "3.1.0"), 0);
 }
 
 /* ---- types ---- */
@@ -214,7 +220,7 @@ static void words(void)
 /* The text of each refusal, and of a number that is none. */
 static void refusal_texts(void)
 {
-    static const char *const texts[17] = {
+    static const char *const texts[18] = {
         "not refused",
         "the frame is empty",
         "the number is not 0 to 63 or 253, or is not logged in",
@@ -228,16 +234,17 @@ static void refusal_texts(void)
         "the site file breaks a rule",
         "the tables or the station's state break a rule",
         "heard in a turn that was not due",
-        "the buffer is too short for the frame",
+        "the buffer is too short for the frame or block",
         "the station asks while it waits for a reply",
         "the reply does not fit what the station waits for",
+        "the size code is not 1 to 6",
         "no refusal number"
     };
-    for (unsigned i = 0; i < 17; i++)
+    for (unsigned i = 0; i < 18; i++)
         same(texts[i], strcmp(hinet_refusal_text(i), texts[i]) == 0, 1);
-    SAME(strcmp(hinet_refusal_text(255), texts[16]), 0);
-    SAME(strcmp(hinet_refusal_text(256), texts[16]), 0);
-    SAME(strcmp(hinet_refusal_text(0xFFFFFFFFu), texts[16]), 0);
+    SAME(strcmp(hinet_refusal_text(255), texts[17]), 0);
+    SAME(strcmp(hinet_refusal_text(256), texts[17]), 0);
+    SAME(strcmp(hinet_refusal_text(0xFFFFFFFFu), texts[17]), 0);
 }
 
 /* The text of each part and each breach, and of a number that is none. */
@@ -345,6 +352,34 @@ static void state_fields(void)
     SAME(hinet_state_lockstring(station, 1) - station, 14);
     SAME(hinet_state_lockstring(station, 63) - station, 882);
     SAME(hinet_state_awaited(station), 0x9B);
+}
+
+/* A block whose bytes all differ: each field is read where it stands. */
+static void block_fields(void)
+{
+    static const uint8_t block[15] = { 0x81, 0x12, 0x93, 0x24, 0xA5, 0x36, 0xB7, 0x48,
+                                       0xC9, 0x5A, 0xDB, 0x6C, 0xED, 0x7E, 0xFF };
+    SAME(hinet_block_two(block, 0), 0x1281);
+    SAME(hinet_block_two(block, 13), 0xFF7E);
+    SAME(hinet_cpm_spt(block), 0x1281);
+    SAME(hinet_cpm_bsh(block), 0x93);
+    SAME(hinet_cpm_blm(block), 0x24);
+    SAME(hinet_cpm_exm(block), 0xA5);
+    SAME(hinet_cpm_dsm(block), 0xB736);
+    SAME(hinet_cpm_drm(block), 0xC948);
+    SAME(hinet_cpm_al0(block), 0x5A);
+    SAME(hinet_cpm_al1(block), 0xDB);
+    SAME(hinet_cpm_cks(block), 0xED6C);
+    SAME(hinet_cpm_off(block), 0xFF7E);
+    SAME(hinet_msdos_bytes_per_sector(block), 0x1281);
+    SAME(hinet_msdos_sectors_per_cluster(block), 0x93);
+    SAME(hinet_msdos_reserved_sectors(block), 0xA524);
+    SAME(hinet_msdos_fats(block), 0x36);
+    SAME(hinet_msdos_root_entries(block), 0x48B7);
+    SAME(hinet_msdos_sectors(block), 0x5AC9);
+    SAME(hinet_msdos_media(block), 0xDB);
+    SAME(hinet_msdos_sectors_per_fat(block), 0xED6C);
+    SAME(hinet_msdos_sectors_per_track(block), 0xFF7E);
 }
 
 /* ---- one call of each entry ---- */
@@ -507,6 +542,23 @@ static void entries_of_a_station(void)
     SAME(hinet_station_clear(station, 911), 14);
 }
 
+/* Both blocks of size 5, in a buffer of 16 bytes; sizes that are none, and a
+ * buffer that is too short. */
+static void entries_of_parameters(void)
+{
+    uint8_t buffer[16];
+    memset(buffer, 0xEE, sizeof buffer);
+    SAME(hinet_cpm_parameters(0, buffer, 16), 16);
+    SAME(hinet_cpm_parameters(257, buffer, 14), 16);
+    SAME(hinet_msdos_parameters(7, buffer, 16), 16);
+    SAME(hinet_msdos_parameters(5, buffer, 14), 13);
+    same_bytes("refused", buffer, "\xEE\xEE\xEE\xEE\xEE\xEE\xEE\xEE\xEE\xEE\xEE\xEE\xEE\xEE\xEE\xEE", 16);
+    SAME(hinet_cpm_parameters(5, buffer, 15), 0x0F0600);
+    same_bytes("CP/M", buffer, "\x80\0\x04\x0F\0\xFF\x07\xFF\x03\xFF\xFF\0\x01\0\0\xEE", 16);
+    SAME(hinet_msdos_parameters(5, buffer, 16), 0x0F0600);
+    same_bytes("MS-DOS", buffer, "\x80\0\x10\x01\0\x02\0\x01\0\x80\x04\x18\0\x80\0\xEE", 16);
+}
+
 int main(void)
 {
     refusals_and_kinds();
@@ -521,10 +573,12 @@ int main(void)
     row_fields();
     record_fields();
     state_fields();
+    block_fields();
     entries_of_frames();
     entries_of_the_master();
     faults_of_a_site();
     entries_of_a_station();
+    entries_of_parameters();
     printf("header: %lu compared, %lu different\n", compared, different);
     return different == 0 ? 0 : 1;
 }

@@ -64,6 +64,10 @@ uint64_t ref_station_frame(const uint8_t *station, size_t station_len,
 uint64_t ref_station_reply(uint8_t *station, size_t station_len,
                            uint32_t reply);
 
+/* Disk parameters. */
+uint64_t ref_cpm_parameters(uint32_t size, uint8_t *buffer, size_t buffer_len);
+uint64_t ref_msdos_parameters(uint32_t size, uint8_t *buffer, size_t buffer_len);
+
 /* The earlier row of the pair that a fault names: the first one before the row
  * named that clashes with it in the way named. Only for a fault of a pair. */
 unsigned ref_earlier_row(const uint8_t *site, uint64_t fault);

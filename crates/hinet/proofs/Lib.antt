@@ -5,3 +5,4 @@ pub mod FrameLaws
 pub mod DiskLaws
 pub mod EntryLaws
 pub mod StationLaws
+pub mod ParameterLaws

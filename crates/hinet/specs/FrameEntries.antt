@@ -41,7 +41,7 @@ loginOf name password serial product = record { command = Login product; name = 
 unfoldable pub stringOf : Command → LockString → Request
 stringOf c s = record { command = c; name = replicate 8 0; password = replicate 6 0; serial = replicate 4 0; string = s }
 
--- a frame written tells its length; or it is refused, 0 for none
+-- a frame, or a block of disk parameters, written tells its length; or it is refused, 0 for none
 abbrev pub frameTold : ℕ → ℕ → Told
 frameTold k l = answersUnless k (frame-of l)
 

@@ -2,3 +2,4 @@ pub mod Packing
 pub mod Entries
 pub mod FrameEntries
 pub mod StationEntries
+pub mod ParameterEntries

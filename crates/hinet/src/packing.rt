@@ -151,7 +151,7 @@ pub fn pack_step(refusal: u8) -> u64
     refusal as u64
 }
 
-// A frame written: its refusal, or its length.
+// A frame or block written: its refusal, or its length.
 pub fn pack_frame(refusal: u8, length: u8) -> u64
     ensures { λ r. ⌜ r ≡ word (frameTold refusal length) ⌝ }
 {
