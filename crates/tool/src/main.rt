@@ -1,10 +1,14 @@
 // The commands of ./hinet. A program has no status of its own: where its first argument is --status, it writes one
 // digit to descriptor 3 at its end. What cannot be read or written is told on standard error.
+mod disks;
 mod text;
 mod words;
 
+use disks::Sizes;
 use libc::STDERR_FILENO;
 use libc::STDOUT_FILENO;
+use params::CpmParameters;
+ghost use Prim.Native.Nat.{_<_};
 ghost use Rattle.io.specs.Counts.{Counts};
 
 // The statuses, as digits: all is good, a file breaks a rule, wrong use, something could not be read or written. Of two
@@ -139,6 +143,56 @@ fn check_site(first: usize, count: usize) -> u8 {
     check_files(first, count)
 }
 
+// The number that a word is the digit of; 0 for another word.
+fn digit_of(word: &[u8]) -> u32
+    ensures { λ r. ⌜ r < 256 ⌝ }
+{
+    if word.len() != 1 {
+        return 0;
+    }
+    let digit = rows::wide(word[0]);
+    if digit < 0x30 {
+        return 0;
+    }
+    if 0x39 < digit {
+        return 0;
+    }
+    digit - 0x30
+}
+
+// Prints the tables of disk parameters for these size codes.
+fn print_tables(sizes: Sizes) -> u8 {
+    let mut page = [0u8; disks::PAGE];
+    let n = disks::append_tables(&mut page, sizes);
+    say(&page[..n], GOOD).status
+}
+
+// Prints the tables for the size code that a word is.
+fn print_size(word: &[u8]) -> u8 {
+    let size = digit_of(word);
+    let found = params::cpm_parameters(size);
+    match found {
+        CpmParameters::Refused(_) => misused(b"parameters: SIZE is 1 to 6, and not ", word),
+        CpmParameters::Given(_) => print_tables(Sizes {
+            first: size,
+            end: size + 1,
+        }),
+    }
+}
+
+// The command parameters: what follows it is a size code, or nothing for all of them.
+fn parameters(first: usize, count: usize) -> u8 {
+    if count <= first {
+        return print_tables(Sizes { first: 1, end: 7 });
+    }
+    if first + 1 < count {
+        return misused(b"parameters: more than one SIZE", b"");
+    }
+    let mut word = [0u8; text::NAME];
+    let n = os::arg(first, &mut word);
+    print_size(&word[..n])
+}
+
 // Runs the command that argument i is.
 fn run(i: usize, count: usize) -> u8 {
     if count <= i {
@@ -148,6 +202,9 @@ fn run(i: usize, count: usize) -> u8 {
     let n = os::arg(i, &mut word);
     if rows::is_same(&word[..n], b"check-site") {
         return check_site(i + 1, count);
+    }
+    if rows::is_same(&word[..n], b"parameters") {
+        return parameters(i + 1, count);
     }
     misused(b"unknown command: ", &word[..n])
 }

@@ -53,3 +53,51 @@ pub fn append_count(line: &mut [u8], at: usize, n: u64, thing: &[u8]) -> usize
     }
     append(line, c, b"s")
 }
+
+// A text at the right of a column of seven.
+fn append_right(line: &mut [u8], at: usize, text: &[u8]) -> usize
+    requires { ⌜ at ≤ length (now line) ⌝ }
+    ensures { λ r. ⌜ Counts r (now (line .exit)) ⌝ }
+{
+    let n = text.len();
+    if 7 < n {
+        return append(line, at, text);
+    }
+    let spaces = [b' '; 7];
+    let a = append(line, at, &spaces[n..]);
+    append(line, a, text)
+}
+
+// A number in decimal, in a column.
+pub fn append_column(line: &mut [u8], at: usize, n: u64) -> usize
+    requires { ⌜ at ≤ length (now line) ⌝ }
+    ensures { λ r. ⌜ Counts r (now (line .exit)) ⌝ }
+{
+    let mut digits = [0u8; 20];
+    let k = io::decimal(n, &mut digits);
+    append_right(line, at, &digits[..k])
+}
+
+// The last hexadecimal digit of a byte.
+fn digit(b: u8) -> u8 {
+    let d = b % 16;
+    if d < 10 { b'0' + d } else { b'A' + (d - 10) }
+}
+
+// A byte in hex, in a column.
+pub fn append_bits(line: &mut [u8], at: usize, b: u8) -> usize
+    requires { ⌜ at ≤ length (now line) ⌝ }
+    ensures { λ r. ⌜ Counts r (now (line .exit)) ⌝ }
+{
+    let text = [digit(b / 16), digit(b), b'h'];
+    append_right(line, at, &text)
+}
+
+// A byte in hex, behind a space.
+pub fn append_byte(line: &mut [u8], at: usize, b: u8) -> usize
+    requires { ⌜ at ≤ length (now line) ⌝ }
+    ensures { λ r. ⌜ Counts r (now (line .exit)) ⌝ }
+{
+    let text = [b' ', digit(b / 16), digit(b)];
+    append(line, at, &text)
+}
