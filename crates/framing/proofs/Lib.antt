@@ -1,0 +1,17 @@
+pub mod BitLaws
+pub mod ZeroLaws
+pub mod TableLaws
+pub mod XorLaws
+pub mod CheckLaws
+pub mod TakeLaws
+pub mod PenLaws
+pub mod WriteLaws
+pub mod ScanLaws
+pub mod QuietLaws
+pub mod SumLaws
+pub mod GoodLaws
+pub mod MeasureLaws
+pub mod ReadLaws
+pub mod RoundTrip
+pub mod StopLaws
+pub mod Theorems
