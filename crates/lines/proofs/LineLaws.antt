@@ -2,7 +2,7 @@
 use Prim.Native.Nat.{ℕ, _≤_}
 use native.Mathlib.Omega.{arith}
 use lib.ListN.{length, length-append}
-use Rattle.master.specs.Answers.{Told, refuses, refuses-site, answers, refusalNumber, no-bytes, status-byte, assign-bytes, place-at, login-as, turn-was, frame-of, request-of}
+use Rattle.master.specs.Answers.{Told, refuses, refuses-site, answers, refusalNumber, no-bytes, status-byte, assign-bytes, place-at, login-as, turn-was, frame-of, request-of, bits-of, line-of}
 use Rattle.lines.proofs.DigitLaws.{decimal-long}
 use Rattle.lines.specs.Line.{decimal, hexByte, answerText, column, columns, lineText}
 
@@ -18,6 +18,8 @@ answer-long (answers (assign-bytes size partition control volume)) = omega arith
 answer-long (answers (turn-was due out)) = omega arith
 answer-long (answers (frame-of l)) = omega arith
 answer-long (answers (request-of code)) = omega arith
+answer-long (answers (bits-of n)) = omega arith
+answer-long (answers (line-of user n)) = omega arith
 
 -- a column of decimal digits, and one of a byte
 pub number-long : (n : ℕ) → length (column (decimal n)) ≤ 21

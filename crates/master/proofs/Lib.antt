@@ -16,3 +16,4 @@ pub mod RowPollLaws
 pub mod Lent
 pub mod SlotCall
 pub mod RowTies
+pub mod LineLaws

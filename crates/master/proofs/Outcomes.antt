@@ -8,7 +8,7 @@ use Rattle.rows.proofs.BoolLaws.{by-eq}
 use Rattle.master.specs.declared.Answer.{Answer}
 use Rattle.master.specs.declared.Answer.the-variants.{Refused, Faulty, Nothing, Status, Assigned, At, LoggedIn}
 use Rattle.site.proofs.FirstFault.{fault-of, fault-back}
-use Rattle.master.specs.Answers.{Told, refuses, refuses-site, answers, refusalNumber, faultTold, no-bytes, status-byte, assign-bytes, place-at, login-as, turn-was, frame-of, request-of, told, Answered}
+use Rattle.master.specs.Answers.{Told, refuses, refuses-site, answers, refusalNumber, faultTold, no-bytes, status-byte, assign-bytes, place-at, login-as, turn-was, frame-of, request-of, bits-of, line-of, told, Answered}
 use Rattle.master.specs.Refusals.{refusal}
 use Rattle.master.specs.Frames.{refusalTold, Serves, frameEffect}
 use Rattle.master.specs.Effects.{Effect, Does}
@@ -34,6 +34,8 @@ known (answers (login-as n f s)) = LoggedIn n f s
 known (answers (turn-was d o)) = Nothing
 known (answers (frame-of l)) = Nothing
 known (answers (request-of code)) = Nothing
+known (answers (bits-of n)) = Nothing
+known (answers (line-of user n)) = Nothing
 
 known-told : (a : Answer) → known (told a) ≡ a
 unfolding known told faultTold
@@ -48,6 +50,17 @@ known-told (LoggedIn number found serial) = refl
 -- two answers that tell the same are equal
 pub told-one : (a b : Answer) → told a ≡ told b → a ≡ b
 told-one a b e = sym (known-told a) ∙ ap known e ∙ known-told b
+
+-- no answer to a frame tells a frame of the line
+pub line-not-told : (user len : ℕ) (a : Answer) → answers (line-of user len) ≡ told a → ⊥
+unfolding known told
+line-not-told user len a e =
+    let none : Nothing ≡ a = ap known e ∙ known-told a in
+    let lie : answers (line-of user len) ≡ answers no-bytes = e ∙ sym (ap told none) in
+    never lie
+  where
+    never : answers (line-of user len) ≡ answers no-bytes → ⊥
+    never e = let z : _≡_ {A = ℕ} 0 1 = cc in omega arith
 
 -- any two outcomes of an entry that answers so are equal
 pub answer-one : {e : Effect (List ℕ)} {r r′ : Answer} {t₁ t₂ w₁ w₂ : List ℕ} → Does e (told r) t₁ w₁ → Does e (told r′) t₂ w₂ → (r ≡ r′) × (t₁ ≡ t₂) × (w₁ ≡ w₂)

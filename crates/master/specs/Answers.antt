@@ -11,7 +11,8 @@ use Rattle.master.specs.declared.Turned.{Turned}
 use Rattle.master.specs.declared.Turned.the-variants.{Refused as NotTurned, Turn}
 
 -- the kinds: nothing more to tell; a status; size code, partition number, control, volume; volume and sector; number, name found, and
--- the number in the four serial bytes; was a turn due, did it end in a logout; the length of a frame written; the code of a frame read
+-- the number in the four serial bytes; was a turn due, did it end in a logout; the length of a frame written; the code of a frame read; how many
+-- bits a frame of the line has; the user number and the length of a frame of the line
 pub data Answered : Type 0 where
   no-bytes : Answered
   status-byte : ℕ → Answered
@@ -21,6 +22,8 @@ pub data Answered : Type 0 where
   turn-was : Bool → Bool → Answered
   frame-of : ℕ → Answered
   request-of : ℕ → Answered
+  bits-of : ℕ → Answered
+  line-of : ℕ → ℕ → Answered
 
 -- a refusal by its number; refusal 10 with part, row and breach, which are no answer; an answer
 pub data Told : Type 0 where

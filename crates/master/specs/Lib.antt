@@ -9,3 +9,4 @@ pub mod Fresh
 pub mod Polls
 pub mod RowPolls
 pub mod Inner
+pub mod Line

@@ -1,6 +1,7 @@
-// The master's entries: fresh tables, the check of the tables, one frame and one poll turn. The tables are lent; an answer
-// is an enum by value, and `told` (specs/Answers.antt) says what it tells.
+// The master's entries: fresh tables, the check of the tables, one frame and one poll turn; one frame from the line stands in
+// line.rt. The tables are lent; an answer is an enum by value, and `told` (specs/Answers.antt) says what it tells.
 mod commands;
+pub mod line;
 mod poll;
 mod refusals;
 
@@ -38,6 +39,12 @@ pub enum Answer {
         found: bool,
         serial: u32,
     },
+}
+
+// What a frame from the line is answered: another's by its user number and length, or as a frame is, refused or served.
+pub enum Received {
+    Another { user: u8, length: u16 },
+    Answered(Answer),
 }
 
 // What a poll turn is answered: was it due, did it end in a logout.
