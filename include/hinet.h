@@ -11,7 +11,8 @@
  *
  * Numbers
  *   A number is 32 bits and is never cut to a byte. 509 is not 253; it is
- *   refused. The product of a login alone is a byte, like those of a name.
+ *   refused. Bytes are the product of a login, like those of a name, and the
+ *   user number of hinet_line_write: a larger one is cut by the compiler.
  *
  * Volume, partition, track and sector
  *   Each has a type of its own, so that a compiler refuses one where another
@@ -72,7 +73,10 @@
  *   Bytes that an entry needs on its deepest path, measured by bench/stack
  *   (memcpy and the like not counted):
  *     hinet_poll                                                1680
- *     hinet_frame                                                528
+ *     hinet_line_frame                                           960
+ *     hinet_line_read                                            880
+ *     hinet_frame                                                624
+ *     hinet_line_write                                           576
  *     hinet_place                                                368
  *     hinet_station_frame, _unlock, _reply                       336
  *     hinet_check_site                                           320
@@ -94,9 +98,9 @@
  * goes up where a program that kept to the header may have to be changed, the
  * second where something new can be called. */
 #define HINET_VERSION_MAJOR 3
-#define HINET_VERSION_MINOR 1
+#define HINET_VERSION_MINOR 2
 #define HINET_VERSION_PATCH 0
-#define HINET_VERSION "3.1.0"
+#define HINET_VERSION "3.2.0"
 
 #ifdef __cplusplus
 extern "C" {
@@ -123,10 +127,19 @@ extern "C" {
 #define HINET_REFUSED_TABLES 11     /* tables or station state of another size
                                        or with a breach */
 #define HINET_REFUSED_NOT_DUE 12    /* heard in a turn that was not due */
-#define HINET_REFUSED_BUFFER 13     /* buffer too short for the frame or block */
+#define HINET_REFUSED_BUFFER 13     /* buffer too short for the frame, its bits,
+                                       its data or the block */
 #define HINET_REFUSED_WAITING 14    /* station asks while waiting */
 #define HINET_REFUSED_REPLY 15      /* reply not fitting: hinet_station_reply */
 #define HINET_REFUSED_SIZE 16       /* size code is not 1 to 6 */
+#define HINET_REFUSED_DATA 17       /* data not 1 to 1024 bytes */
+#define HINET_REFUSED_NO_FLAG 18    /* no flag at the first bit, the bits ended
+                                       before the closing one, or the bit count
+                                       is past the bytes */
+#define HINET_REFUSED_STOPPED 19    /* stopped by seven ones */
+#define HINET_REFUSED_BITS 20       /* bits not whole bytes */
+#define HINET_REFUSED_SHORT 21      /* under four bytes between the flags */
+#define HINET_REFUSED_CHECK 22      /* frame check */
 
 /* Kinds of answer, with their bytes. */
 #define HINET_KIND_NONE 0           /* no bytes */
@@ -139,6 +152,8 @@ extern "C" {
 #define HINET_KIND_FAULT 7          /* part, row, breach; no answer: it stands
                                        beside refusal 10, in the one refused
                                        word with something above bit 7 */
+#define HINET_KIND_BITS 8           /* bit count (4) */
+#define HINET_KIND_LINE 9           /* user number, data length (2) */
 #define HINET_KIND_REQUEST 13       /* code */
 
 /* The refusal number of an answer, 0 for none. */
@@ -176,10 +191,16 @@ static inline const char *hinet_refusal_text(unsigned refusal)
     case HINET_REFUSED_SITE:     return "the site file breaks a rule";
     case HINET_REFUSED_TABLES:   return "the tables or the station's state break a rule";
     case HINET_REFUSED_NOT_DUE:  return "heard in a turn that was not due";
-    case HINET_REFUSED_BUFFER:   return "the buffer is too short for the frame or block";
+    case HINET_REFUSED_BUFFER:   return "the buffer is too short for what goes into it";
     case HINET_REFUSED_WAITING:  return "the station asks while it waits for a reply";
     case HINET_REFUSED_REPLY:    return "the reply does not fit what the station waits for";
     case HINET_REFUSED_SIZE:     return "the size code is not 1 to 6";
+    case HINET_REFUSED_DATA:     return "the data are not 1 to 1024 bytes";
+    case HINET_REFUSED_NO_FLAG:  return "there is no flag at the first bit, the bits ended, or the bit count is past the bytes";
+    case HINET_REFUSED_STOPPED:  return "seven ones stopped the frame";
+    case HINET_REFUSED_BITS:     return "the bits are not whole bytes";
+    case HINET_REFUSED_SHORT:    return "there are under four bytes between the flags";
+    case HINET_REFUSED_CHECK:    return "the frame check differs";
     default:                     return "no refusal number";
     }
 }
@@ -232,7 +253,8 @@ static inline hinet_sector hinet_sector_of(uint32_t number)
  * Request frames
  * ------------------------------------------------------------------------
  *
- * A frame is the data part, without user number, CRC or flags.
+ * A frame is the data part, without user number, check or flags. Those are put
+ * around it for the line, at the end of this header.
  *
  *   41 acknowledge      41
  *   11 read 128         11 dtn src dsk trk(2) sec vli
@@ -1164,6 +1186,128 @@ static inline uint16_t hinet_msdos_sectors_per_track(const uint8_t *block)
 {
     return hinet_block_two(block, 13);
 }
+
+/* ------------------------------------------------------------------------
+ * The frame on the line
+ * ------------------------------------------------------------------------
+ *
+ * For a board without a serial chip: the SDLC frame in bits. The C program
+ * moves them over its port, at the rate of its line, and finds where a frame
+ * begins. The library knows no rate, no clock and no time-out.
+ *
+ *   flag flag content flag flag
+ *
+ *   flag      the bits 0 1 1 1 1 1 1 0
+ *   content   user number, 1 to 1024 data bytes, check (2), each byte low bit
+ *             first. After five ones stands a zero, which is not part of them,
+ *             also where they end the check.
+ *   check     the 16-bit one of RFC 1662 over user number and data, low byte
+ *             first: polynomial 8408 (low bit first), start FFFF, complement
+ *             sent. That of the text 123456789 is 906E.
+ *
+ * The user number is the one that the frame is for: 0 is the master.
+ *
+ * Bits stand in bytes low bit first: bit i of the line is bit i % 8 of byte
+ * i / 8. A bit count says how many there are.
+ *
+ * Buffers. 1237 bytes hold the bits of any frame that hinet_line_write writes:
+ * 32 of the flags, 8216 of the content, and a zero for every five of these at
+ * most, 9891 in all. Received bits need more where more flags stand before the
+ * content, a byte for each: HiNet masters sent several. 1024 bytes hold the
+ * data of any frame; a shorter buffer does where the data are fewer,
+ * as 20 bytes do for every request frame.
+ *
+ * Two different contents never have the same bits, and what hinet_line_write
+ * wrote hinet_line_read reads back. Two contents of one length that differ in
+ * one byte never have the same check. Other damage can pass a check of 16
+ * bits, as with the serial chip.
+ */
+
+#define HINET_LINE_DATA_MOST 1024   /* data bytes of a frame */
+#define HINET_LINE_BITS_MOST 9891   /* bits of a frame, no frame has more */
+#define HINET_LINE_BYTES_MOST 1237  /* bytes that hold them */
+#define HINET_LINE_MASTER 0         /* user number of the master */
+
+/* Kind BITS: how many bits were written. */
+static inline uint32_t hinet_answer_bit_count(uint64_t answer)
+{
+    return (uint32_t)(answer >> 16 & 0xFFFFFFFFu);
+}
+
+/* Kind LINE: the user number that the frame is for. */
+static inline uint8_t hinet_answer_line_user(uint64_t answer)
+{
+    return hinet_answer_byte(answer, 0);
+}
+
+/* Kind LINE: how many data bytes the frame has. */
+static inline uint16_t hinet_answer_line_length(uint64_t answer)
+{
+    return (uint16_t)(answer >> 24 & 0xFFFF);
+}
+
+/*
+ * Writes the bits of a frame to `user` at the start of the buffer `bits`. The
+ * user number is a byte: 256 would be cut to 0, the master.
+ *
+ * Refusals, in this order:
+ *   17  data_len is not 1 to 1024
+ *   13  the bytes that hold the bits do not fit; never with bits_len 1237 or
+ *       more
+ * Memory: the buffer holds the bits, and the unused bits of the last byte are
+ *   zero; the bytes after it stay. A refused call changes nothing.
+ * Answer: BITS with the bit count.
+ */
+uint64_t hinet_line_write(uint8_t user,
+                          const uint8_t *data, size_t data_len,
+                          uint8_t *bits, size_t bits_len);
+
+/*
+ * Reads a frame from the first bit_count bits, and puts its data at the start
+ * of the buffer `data`.
+ *
+ * A flag stands at the first bit. Those that follow it at once are skipped,
+ * also where two share a zero: 0 111111 0 111111 0. Then come the bits of the
+ * content, up to the next flag; what stands after that flag is not looked at.
+ * The bit after five ones is left out. Where five ones stand right before the
+ * flag, they are read as if their zero were there.
+ *
+ * Refusals, in this order:
+ *   18  no flag at the first bit; the bits ended before the closing flag; or
+ *       bit_count is above 8 * bits_len, however good the bits are
+ *   19  seven ones before the closing flag
+ *   20  the bits of the content are not whole bytes
+ *   21  the content is under four bytes
+ *   17  over 1024 data bytes
+ *   22  the check is not that of user number and data
+ *   13  the data do not fit; never with data_len 1024 or more
+ * Memory: the buffer holds the data; the bytes after them stay. A refused call
+ *   changes nothing: a frame that was spoiled leaves no trace in it.
+ * Answer: LINE, whoever the frame is for.
+ */
+uint64_t hinet_line_read(const uint8_t *bits, size_t bits_len, size_t bit_count,
+                         uint8_t *data, size_t data_len);
+
+/*
+ * Reads a frame from the line and, where it is for the master, serves it as
+ * one that came at the number polled. The number tells who sends; the user
+ * number of the frame tells for whom it is.
+ *
+ * Refusals, in this order: 18, 19, 20, 21, 17, 22 as hinet_line_read has them.
+ *   Then, for user number 0, those of hinet_frame: 11, 10 with the site file's
+ *   first fault, and 1 to 9; 1 does not occur, as a frame has data.
+ * Memory: for user number 0 as hinet_frame leaves it. For any other number
+ *   nothing is served and nothing changes, nor where the call is refused.
+ * Answer: for user number 0 that of hinet_frame to the frame's data. For any
+ *   other number LINE; the tables and the site file are then not looked at.
+ *   One refused with 18 to 22 was spoiled on its way: nobody answers it, and
+ *   its sender sends it again.
+ */
+uint64_t hinet_line_frame(uint32_t number,
+                          const uint8_t *bits, size_t bits_len, size_t bit_count,
+                          const uint8_t *site, size_t site_len,
+                          uint8_t *locks, size_t locks_len,
+                          uint8_t *stations, size_t stations_len);
 
 #ifdef __cplusplus
 }

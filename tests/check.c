@@ -51,10 +51,10 @@ static int unchanged(const struct lent *slice)
 
 /* ---- outcomes ---- */
 
-/* Refusals 1 to 16 have their own numbers as outcomes, but for 10: it has one
+/* Refusals 1 to 22 have their own numbers as outcomes, but for 10: it has one
  * for each kind of fault. */
 enum outcome {
-    FAULT_HEADER = 17, FAULT_USER_NAME,
+    FAULT_HEADER = 23, FAULT_USER_NAME,
     FAULT_RANGE, FAULT_NAME, FAULT_NUMBER, FAULT_OVERLAP,
     NONE,
     STATUS_00, STATUS_01, STATUS_02, STATUS_81, STATUS_82,
@@ -63,6 +63,8 @@ enum outcome {
     LOGIN_FOUND, LOGIN_UNKNOWN, LOGIN_FULL,
     TURN_NOT_DUE, TURN_DUE, TURN_OUT,
     WRITTEN_0, WRITTEN_1, WRITTEN_2, WRITTEN_8, WRITTEN_15, WRITTEN_20,
+    LINE_BITS,
+    LINE_MASTER, LINE_OTHER,
     REQUEST_41, REQUEST_11, REQUEST_12, REQUEST_13, REQUEST_17, REQUEST_19,
     REQUEST_1A, REQUEST_1B, REQUEST_1F,
     OUTCOMES
@@ -86,6 +88,8 @@ static const char *const outcome_names[OUTCOMES] = {
     [WRITTEN_0] = "kind 6, length 0", [WRITTEN_1] = "kind 6, length 1",
     [WRITTEN_2] = "kind 6, length 2", [WRITTEN_8] = "kind 6, length 8",
     [WRITTEN_15] = "kind 6, length 15", [WRITTEN_20] = "kind 6, length 20",
+    [LINE_BITS] = "kind 8, bits",
+    [LINE_MASTER] = "kind 9, for number 0", [LINE_OTHER] = "kind 9, for another",
     [REQUEST_41] = "kind 13, code 41", [REQUEST_11] = "kind 13, code 11",
     [REQUEST_12] = "kind 13, code 12", [REQUEST_13] = "kind 13, code 13",
     [REQUEST_17] = "kind 13, code 17", [REQUEST_19] = "kind 13, code 19",
@@ -131,7 +135,12 @@ static const struct {
         BIT(11) | BIT(13) | BIT(WRITTEN_0) | BIT(WRITTEN_1) | BIT(WRITTEN_15) },
     [ENTRY_STATION_REPLY] = { "hinet_station_reply", BIT(11) | BIT(15) | BIT(NONE) },
     [ENTRY_CPM_PARAMETERS] = { "hinet_cpm_parameters", BIT(16) | BIT(13) | BIT(WRITTEN_15) },
-    [ENTRY_MSDOS_PARAMETERS] = { "hinet_msdos_parameters", BIT(16) | BIT(13) | BIT(WRITTEN_15) }
+    [ENTRY_MSDOS_PARAMETERS] = { "hinet_msdos_parameters", BIT(16) | BIT(13) | BIT(WRITTEN_15) },
+    [ENTRY_LINE_WRITE] = { "hinet_line_write", BIT(17) | BIT(13) | BIT(LINE_BITS) },
+    [ENTRY_LINE_READ] = { "hinet_line_read",
+        BITS(17, 22) | BIT(13) | BIT(LINE_MASTER) | BIT(LINE_OTHER) },
+    [ENTRY_LINE_FRAME] = { "hinet_line_frame",
+        BITS(17, 22) | BITS(2, 9) | FAULTS | BIT(11) | BITS(NONE, LOGIN_FULL) | BIT(LINE_OTHER) }
 };
 
 static unsigned long counts[ENTRIES][OUTCOMES];
@@ -182,6 +191,22 @@ static enum outcome written_outcome(uint64_t answer)
     case 20: return WRITTEN_20;
     default: return OUTCOMES;
     }
+}
+
+/* A frame has 64 bits or more, and the largest 9891 at most. */
+static enum outcome bits_outcome(uint64_t answer)
+{
+    uint64_t count = answer >> 16;
+    return count >= 64 && count <= 9891 ? LINE_BITS : OUTCOMES;
+}
+
+/* A frame by its user number; it has 1 to 1024 data bytes. */
+static enum outcome line_outcome(uint64_t answer)
+{
+    uint64_t length = answer >> 24;
+    if (length < 1 || length > 1024)
+        return OUTCOMES;
+    return answer_byte(answer, 0) == 0 ? LINE_MASTER : LINE_OTHER;
 }
 
 static enum outcome request_outcome(uint64_t answer)
@@ -243,6 +268,8 @@ static enum outcome outcome_of(uint64_t answer)
     case 4:  return login_outcome(answer);
     case 5:  return turn_outcome(answer);
     case 6:  return written_outcome(answer);
+    case 8:  return bits_outcome(answer);
+    case 9:  return line_outcome(answer);
     case 13: return request_outcome(answer);
     default: return OUTCOMES;
     }
@@ -256,13 +283,13 @@ static int nothing_above_refusal(uint64_t answer)
     return answer >> 8 == 0;
 }
 
-/* Are the bits above the answer's own bytes zero? No kind above 13 and none
- * from 7 to 12 has an answer. */
+/* Are the bits above the answer's own bytes zero? Kind 7, those from 10 to 12
+ * and those above 13 have no answer. */
 static int nothing_above(uint64_t answer)
 {
     enum { NO_KIND = 7, KINDS = 14 };
     static const unsigned bytes[KINDS] = {
-        0, 1, 4, 5, 6, 2, 1, NO_KIND, NO_KIND, NO_KIND, NO_KIND, NO_KIND, NO_KIND, 1
+        0, 1, 4, 5, 6, 2, 1, NO_KIND, 4, 3, NO_KIND, NO_KIND, NO_KIND, 1
     };
     unsigned kind = (unsigned)(answer >> 8 & 0xFF);
     if ((answer & 0xFF) != 0)
@@ -302,7 +329,7 @@ static void dump_call(const struct call *call)
 {
     printf("%s\n", entries[call->entry].name);
     for (unsigned i = 0; i < call->numbers; i++)
-        printf("number argument %u: %lu\n", i, (unsigned long)call->number[i]);
+        printf("number argument %u: %llu\n", i, (unsigned long long)call->number[i]);
     printf("answer of the library:   %016llX\n", (unsigned long long)call->library);
     printf("answer of the reference: %016llX\n", (unsigned long long)call->reference);
     for (unsigned i = 0; i < call->parts; i++)

@@ -34,6 +34,7 @@ enum entry {
     ENTRY_STATION_FRESH, ENTRY_STATION_LOCK, ENTRY_STATION_UNLOCK,
     ENTRY_STATION_CLEAR, ENTRY_STATION_FRAME, ENTRY_STATION_REPLY,
     ENTRY_CPM_PARAMETERS, ENTRY_MSDOS_PARAMETERS,
+    ENTRY_LINE_WRITE, ENTRY_LINE_READ, ENTRY_LINE_FRAME,
     ENTRIES
 };
 
@@ -48,7 +49,7 @@ struct part {
 struct call {
     enum entry entry;
     unsigned numbers;
-    uint32_t number[5];
+    uint64_t number[5];
     unsigned parts;
     struct part part[4];
     uint64_t library;

@@ -37,6 +37,10 @@ uint64_t hinet_station_frame(const uint8_t *, size_t, uint8_t *, size_t);
 uint64_t hinet_station_reply(uint8_t *, size_t, uint32_t);
 uint64_t hinet_cpm_parameters(uint32_t, uint8_t *, size_t);
 uint64_t hinet_msdos_parameters(uint32_t, uint8_t *, size_t);
+uint64_t hinet_line_write(uint8_t, const uint8_t *, size_t, uint8_t *, size_t);
+uint64_t hinet_line_read(const uint8_t *, size_t, size_t, uint8_t *, size_t);
+uint64_t hinet_line_frame(uint32_t, const uint8_t *, size_t, size_t, const uint8_t *, size_t,
+                          uint8_t *, size_t, uint8_t *, size_t);
 #ifdef __cplusplus
 }
 #endif
@@ -80,6 +84,12 @@ static void refusals_and_kinds(void)
     SAME(HINET_REFUSED_WAITING, 14);
     SAME(HINET_REFUSED_REPLY, 15);
     SAME(HINET_REFUSED_SIZE, 16);
+    SAME(HINET_REFUSED_DATA, 17);
+    SAME(HINET_REFUSED_NO_FLAG, 18);
+    SAME(HINET_REFUSED_STOPPED, 19);
+    SAME(HINET_REFUSED_BITS, 20);
+    SAME(HINET_REFUSED_SHORT, 21);
+    SAME(HINET_REFUSED_CHECK, 22);
     SAME(HINET_KIND_NONE, 0);
     SAME(HINET_KIND_STATUS, 1);
     SAME(HINET_KIND_ASSIGN, 2);
@@ -88,6 +98,8 @@ static void refusals_and_kinds(void)
     SAME(HINET_KIND_TURN, 5);
     SAME(HINET_KIND_WRITTEN, 6);
     SAME(HINET_KIND_FAULT, 7);
+    SAME(HINET_KIND_BITS, 8);
+    SAME(HINET_KIND_LINE, 9);
     SAME(HINET_KIND_REQUEST, 13);
 }
 
@@ -156,12 +168,20 @@ static void table_constants(void)
     SAME(HINET_PARAMETERS_BYTES, 15);
 }
 
+static void line_constants(void)
+{
+    SAME(HINET_LINE_DATA_MOST, 1024);
+    SAME(HINET_LINE_BITS_MOST, 9891);
+    SAME(HINET_LINE_BYTES_MOST, 1237);
+    SAME(HINET_LINE_MASTER, 0);
+}
+
 static void version(void)
 {
     SAME(HINET_VERSION_MAJOR, 3);
-    SAME(HINET_VERSION_MINOR, 1);
+    SAME(HINET_VERSION_MINOR, 2);
     SAME(HINET_VERSION_PATCH, 0);
-    SAME(strcmp(HINET_VERSION, "3.1.0"), 0);
+    SAME(strcmp(HINET_VERSION, "3.2.0"), 0);
 }
 
 /* ---- types ---- */
@@ -180,8 +200,10 @@ static void types(void)
 
 /* ---- the answer word ---- */
 
-/* A word whose bytes are these, lowest first, and the sector of a place in it. */
-static void word_of(uint64_t word, const uint8_t bytes[8], uint32_t sector)
+/* A word whose bytes are these, lowest first, and the sector of a place, the bit
+ * count and the length of a line in it. */
+static void word_of(uint64_t word, const uint8_t bytes[8], uint32_t sector, uint32_t bits,
+                    uint16_t length)
 {
     uint8_t serial[4] = { 0, 0, 0, 0 };
     SAME(hinet_answer_refusal(word), bytes[0]);
@@ -206,6 +228,9 @@ static void word_of(uint64_t word, const uint8_t bytes[8], uint32_t sector)
     SAME(hinet_fault_part(word), bytes[2]);
     SAME(hinet_fault_row(word), bytes[3]);
     SAME(hinet_fault_breach(word), bytes[4]);
+    SAME(hinet_answer_bit_count(word), bits);
+    SAME(hinet_answer_line_user(word), bytes[2]);
+    SAME(hinet_answer_line_length(word), length);
 }
 
 /* Two words: where a bit is set in one of them it is not set in the other. */
@@ -213,14 +238,14 @@ static void words(void)
 {
     static const uint8_t high[8] = { 0x91, 0xA2, 0xB3, 0xC4, 0xD5, 0xE6, 0xF7, 0x88 };
     static const uint8_t low[8] = { 0x6E, 0x5D, 0x4C, 0x3B, 0x2A, 0x19, 0x08, 0x77 };
-    word_of(UINT64_C(0x88F7E6D5C4B3A291), high, 0xF7E6D5C4u);
-    word_of(UINT64_C(0x7708192A3B4C5D6E), low, 0x08192A3Bu);
+    word_of(UINT64_C(0x88F7E6D5C4B3A291), high, 0xF7E6D5C4u, 0xE6D5C4B3u, 0xD5C4);
+    word_of(UINT64_C(0x7708192A3B4C5D6E), low, 0x08192A3Bu, 0x192A3B4Cu, 0x2A3B);
 }
 
 /* The text of each refusal, and of a number that is none. */
 static void refusal_texts(void)
 {
-    static const char *const texts[18] = {
+    static const char *const texts[24] = {
         "not refused",
         "the frame is empty",
         "the number is not 0 to 63 or 253, or is not logged in",
@@ -234,17 +259,23 @@ static void refusal_texts(void)
         "the site file breaks a rule",
         "the tables or the station's state break a rule",
         "heard in a turn that was not due",
-        "the buffer is too short for the frame or block",
+        "the buffer is too short for what goes into it",
         "the station asks while it waits for a reply",
         "the reply does not fit what the station waits for",
         "the size code is not 1 to 6",
+        "the data are not 1 to 1024 bytes",
+        "there is no flag at the first bit, the bits ended, or the bit count is past the bytes",
+        "seven ones stopped the frame",
+        "the bits are not whole bytes",
+        "there are under four bytes between the flags",
+        "the frame check differs",
         "no refusal number"
     };
-    for (unsigned i = 0; i < 18; i++)
+    for (unsigned i = 0; i < 24; i++)
         same(texts[i], strcmp(hinet_refusal_text(i), texts[i]) == 0, 1);
-    SAME(strcmp(hinet_refusal_text(255), texts[17]), 0);
-    SAME(strcmp(hinet_refusal_text(256), texts[17]), 0);
-    SAME(strcmp(hinet_refusal_text(0xFFFFFFFFu), texts[17]), 0);
+    SAME(strcmp(hinet_refusal_text(255), texts[23]), 0);
+    SAME(strcmp(hinet_refusal_text(256), texts[23]), 0);
+    SAME(strcmp(hinet_refusal_text(0xFFFFFFFFu), texts[23]), 0);
 }
 
 /* The text of each part and each breach, and of a number that is none. */
@@ -559,11 +590,58 @@ static void entries_of_parameters(void)
     same_bytes("MS-DOS", buffer, "\x80\0\x10\x01\0\x02\0\x01\0\x80\x04\x18\0\x80\0\xEE", 16);
 }
 
+/* User number 31 and 32 to 39 have the published check 906E. The check of 00 F0
+ * is F8C8: it ends in five ones, and a zero comes after them. */
+static void bits_of_the_line(void)
+{
+    static const uint8_t digits[8] = { '2', '3', '4', '5', '6', '7', '8', '9' }, f0 = 0xF0;
+    uint8_t bits[16], data[9];
+    memset(bits, 0xEE, sizeof bits);
+    memset(data, 0xEE, sizeof data);
+    SAME(hinet_line_write('1', digits, 0, bits, 16), 17);
+    SAME(hinet_line_write('1', digits, 8, bits, 14), 13);
+    same_bytes("refused", bits, "\xEE\xEE\xEE\xEE\xEE\xEE\xEE\xEE\xEE\xEE\xEE\xEE\xEE\xEE\xEE\xEE", 16);
+    SAME(hinet_line_write('1', digits, 8, bits, 15), 0x780800);
+    same_bytes("bits", bits, "\x7E\x7E" "123456789\x6E\x90\x7E\x7E\xEE", 16);
+    SAME(hinet_line_read((const uint8_t *)bits, 15, 121, data, 9), 18);
+    SAME(hinet_line_read((const uint8_t *)bits, 15, 120, data, 7), 13);
+    same_bytes("refused", data, "\xEE\xEE\xEE\xEE\xEE\xEE\xEE\xEE\xEE", 9);
+    SAME(hinet_line_read((const uint8_t *)bits, 15, 120, data, 8), 0x08310900);
+    same_bytes("data", data, "23456789\xEE", 9);
+    bits[5] ^= 0x10;
+    SAME(hinet_line_read((const uint8_t *)bits, 15, 120, data, 9), 22);
+    SAME(hinet_line_write(0, &f0, 1, bits, 16), 0x410800);
+    same_bytes("five ones", bits, "\x7E\x7E\x00\xF0\xC8\xF8\xFC\xFC\x00" "89\x6E\x90\x7E\x7E\xEE", 16);
+    SAME(hinet_line_read((const uint8_t *)bits, 16, 65, data, 1), 0x01000900);
+    same_bytes("F0", data, "\xF0" "3456789\xEE", 9);
+}
+
+/* An acknowledge for the master, and a byte FF for user number 63. One that
+ * has a bit wrong is not served. */
+static void entries_of_the_line(void)
+{
+    static const uint8_t site[8] = { 0, 0, 8, 0, 0, 0, 8, 0 };
+    static const uint8_t other[9] = { 0x7E, 0x7E, 0x5F, 0xBE, 0x57, 0xD5, 0xF8, 0xF9, 0x01 };
+    static uint8_t locks[1024], stations[1152];
+    uint8_t bits[8] = { 0x7E, 0x7E, 0x00, 0x41, 0xCA, 0x5C, 0x7E, 0x7E };
+    hinet_fresh(locks, 1024, stations, 1152);
+    SAME(hinet_line_frame(0, (const uint8_t *)bits, 8, 64, site, 8, locks, 1024, stations, 1152), 0);
+    SAME(hinet_line_frame(1, (const uint8_t *)bits, 8, 64, site, 8, locks, 1024, stations, 1152), 2);
+    SAME(hinet_line_frame(256, (const uint8_t *)bits, 8, 64, site, 8, locks, 1024, stations, 1152), 2);
+    SAME(hinet_line_frame(0, (const uint8_t *)bits, 8, 64, site, 7, locks, 1024, stations, 1152),
+         UINT64_C(0x010000070A));
+    SAME(hinet_line_frame(0, (const uint8_t *)bits, 8, 64, site, 8, locks, 1023, stations, 1152), 11);
+    bits[3] = 0x43;
+    SAME(hinet_line_frame(0, (const uint8_t *)bits, 8, 64, site, 8, locks, 1023, stations, 1152), 22);
+    SAME(hinet_line_frame(0, other, 9, 66, site, 7, locks, 1023, stations, 1152), 0x013F0900);
+}
+
 int main(void)
 {
     refusals_and_kinds();
     frame_constants();
     table_constants();
+    line_constants();
     version();
     types();
     words();
@@ -579,6 +657,8 @@ int main(void)
     faults_of_a_site();
     entries_of_a_station();
     entries_of_parameters();
+    bits_of_the_line();
+    entries_of_the_line();
     printf("header: %lu compared, %lu different\n", compared, different);
     return different == 0 ? 0 : 1;
 }

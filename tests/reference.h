@@ -68,6 +68,18 @@ uint64_t ref_station_reply(uint8_t *station, size_t station_len,
 uint64_t ref_cpm_parameters(uint32_t size, uint8_t *buffer, size_t buffer_len);
 uint64_t ref_msdos_parameters(uint32_t size, uint8_t *buffer, size_t buffer_len);
 
+/* The frame on the line; the check of any bytes too. */
+uint64_t ref_line_write(uint8_t user, const uint8_t *data, size_t data_len,
+                        uint8_t *bits, size_t bits_len);
+uint64_t ref_line_read(const uint8_t *bits, size_t bits_len, size_t bit_count,
+                       uint8_t *data, size_t data_len);
+uint64_t ref_line_frame(uint32_t number,
+                        const uint8_t *bits, size_t bits_len, size_t bit_count,
+                        const uint8_t *site, size_t site_len,
+                        uint8_t *locks, size_t locks_len,
+                        uint8_t *stations, size_t stations_len);
+unsigned ref_line_check(const uint8_t *bytes, size_t len);
+
 /* The earlier row of the pair that a fault names: the first one before the row
  * named that clashes with it in the way named. Only for a fault of a pair. */
 unsigned ref_earlier_row(const uint8_t *site, uint64_t fault);

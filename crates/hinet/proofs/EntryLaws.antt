@@ -75,10 +75,10 @@ module _ (s : List ℕ) (a : Address) (r : ℕ) (done : Gives (placeWord s a) r)
 -- the word of an entry whose answer fits, taken apart, tells what the master tells; a refused one is its number and nothing else, but for
 -- 10, and both tables are as they were
 module _ (e : Effect (List ℕ)) (fits : Tellable (e .tells)) (r : ℕ) (t′ w′ : List ℕ) (done : Tells e r t′ w′) where
-  word-tells : toldIn r ≡ e .tells
+  pub word-tells : toldIn r ≡ e .tells
   word-tells = ap toldIn (done .answer) ∙ word-back (e .tells) fits
 
-  untouched : (t w : List ℕ) → ((refusalNumber (e .tells) ≡ 0 → ⊥) → (e .locks ≡ t) × (e .records ≡ w)) → (refusalIn r ≡ 0 → ⊥)
+  pub untouched : (t w : List ℕ) → ((refusalNumber (e .tells) ≡ 0 → ⊥) → (e .locks ≡ t) × (e .records ≡ w)) → (refusalIn r ≡ 0 → ⊥)
       → ((refusalIn r ≡ 10 → ⊥) → r ≡ refusalIn r) × (t′ ≡ t) × (w′ ≡ w)
   untouched t w keeps ne =
       let told = refused-told (e .tells) fits r (done .answer) ne in
@@ -123,14 +123,17 @@ module _ (n : ℕ) (f s t w : List ℕ) where
   low Clear q = omega arith
   low (Logout src) q = omega arith
 
+  -- nor does a frame that is refused
+  pub frame-keeps : (refusalNumber (frameEffect n f s t w .tells) ≡ 0 → ⊥) → (frameEffect n f s t w .locks ≡ t) × (frameEffect n f s t w .records ≡ w)
+  unfolding frameEffect requestEffect
+  frame-keeps = unless-keeps (refusal n f s t w) (refusalTold s (refusal n f s t w)) t w _ (keeps (requestIn f .command) (requestIn f))
+
   module _ (frame : Bytes f) (site : Bytes s) (r : ℕ) (t′ w′ : List ℕ) (done : Served n f s t w r t′ w′) where
     pub frame-word-tells : toldIn r ≡ frameEffect n f s t w .tells
     frame-word-tells = word-tells (frameEffect n f s t w) (frame-fits n f s t w frame site) r t′ w′ done
 
     pub refused-frame-untouched : (refusalIn r ≡ 0 → ⊥) → ((refusalIn r ≡ 10 → ⊥) → r ≡ refusalIn r) × (t′ ≡ t) × (w′ ≡ w)
-    unfolding frameEffect requestEffect
-    refused-frame-untouched = untouched (frameEffect n f s t w) (frame-fits n f s t w frame site) r t′ w′ done t w
-        (unless-keeps (refusal n f s t w) (refusalTold s (refusal n f s t w)) t w _ (keeps (requestIn f .command) (requestIn f)))
+    refused-frame-untouched = untouched (frameEffect n f s t w) (frame-fits n f s t w frame site) r t′ w′ done t w frame-keeps
 
     -- 10 is told with the fault that the site check tells
     pub faulty-frame : refusalIn r ≡ 10 → r ≡ siteWord s

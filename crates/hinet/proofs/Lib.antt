@@ -6,3 +6,4 @@ pub mod DiskLaws
 pub mod EntryLaws
 pub mod StationLaws
 pub mod ParameterLaws
+pub mod LineLaws

@@ -3,3 +3,4 @@ pub mod Entries
 pub mod FrameEntries
 pub mod StationEntries
 pub mod ParameterEntries
+pub mod LineEntries

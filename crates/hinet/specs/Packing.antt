@@ -4,7 +4,7 @@ use Prim.Native.Nat.{ℕ, _+_, _*_, _/_, _%_, _^_}
 use mathlib.Core.Bool.{Bool, cond, _&&_}
 use lib.Dec.{eqb}
 use Rattle.who.specs.Records.{flag}
-use Rattle.master.specs.Answers.{Told, refuses, refuses-site, answers, Answered, no-bytes, status-byte, assign-bytes, place-at, login-as, turn-was, frame-of, request-of}
+use Rattle.master.specs.Answers.{Told, refuses, refuses-site, answers, Answered, no-bytes, status-byte, assign-bytes, place-at, login-as, turn-was, frame-of, request-of, bits-of, line-of}
 
 -- the kinds of answer; an entry with nothing more to tell returns 0
 abbrev pub STATUS : ℕ
@@ -28,10 +28,16 @@ WRITTEN = 6
 abbrev pub FAULT : ℕ
 FAULT = 7
 
+abbrev pub BITS : ℕ
+BITS = 8
+
+abbrev pub LINE : ℕ
+LINE = 9
+
 abbrev pub REQUEST : ℕ
 REQUEST = 13
 
--- a sector and a serial take four bytes, every other value takes one
+-- a sector, a serial and a count of bits take four bytes, the length of the data of a frame of the line two, every other value one
 unfoldable pub word : Told → ℕ
 word (refuses k) = k
 word (refuses-site part row breach) = 10 + FAULT * 2 ^ 8 + part * 2 ^ 16 + row * 2 ^ 24 + breach * 2 ^ 32
@@ -44,6 +50,8 @@ word (answers (login-as number found serial)) = LOGIN * 2 ^ 8 + number * 2 ^ 16 
 word (answers (turn-was due out)) = TURN * 2 ^ 8 + flag due * 2 ^ 16 + flag out * 2 ^ 24
 word (answers (frame-of length)) = WRITTEN * 2 ^ 8 + length * 2 ^ 16
 word (answers (request-of code)) = REQUEST * 2 ^ 8 + code * 2 ^ 16
+word (answers (bits-of n)) = BITS * 2 ^ 8 + n * 2 ^ 16
+word (answers (line-of user n)) = LINE * 2 ^ 8 + user * 2 ^ 16 + n * 2 ^ 24
 
 -- how the C program takes a word apart: the refusal, the kind, and n bytes of the answer from byte i on
 unfoldable pub refusalIn : ℕ → ℕ
@@ -68,7 +76,9 @@ answeredIn x =
     (cond (eqb (kindIn x) TURN) (turn-was (flagIn x 0) (flagIn x 1))
     (cond (eqb (kindIn x) WRITTEN) (frame-of (bytesIn x 0 1))
     (cond (eqb (kindIn x) REQUEST) (request-of (bytesIn x 0 1))
-    no-bytes))))))
+    (cond (eqb (kindIn x) BITS) (bits-of (bytesIn x 0 4))
+    (cond (eqb (kindIn x) LINE) (line-of (bytesIn x 0 1) (bytesIn x 1 2))
+    no-bytes))))))))
 
 -- what a word tells: an answer where nothing is refused; a fault, which is refusal 10 with that kind; or the refusal alone
 unfoldable pub toldIn : ℕ → Told

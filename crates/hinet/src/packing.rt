@@ -1,5 +1,8 @@
 // An answer as one word (specs/Packing.antt).
+use framing::Reading;
+use framing::Written;
 use master::Answer;
+use master::Received;
 use master::Turned;
 use site::Breach;
 use site::Checked;
@@ -8,12 +11,14 @@ use site::Located;
 use site::Placed;
 ghost use mathlib.Core.Path.{_≡_};
 ghost use Rattle.site.specs.Faults.{breachNumber};
-ghost use Rattle.master.specs.Answers.{refuses-site, answers, request-of, faultTold, told, turnTold};
+ghost use Rattle.master.specs.Answers.{refuses-site, answers, request-of, line-of, faultTold, told, turnTold};
+ghost use Rattle.master.specs.Line.{receivedTold};
 ghost use Rattle.master.specs.Frames.{placeTold};
 ghost use Rattle.hinet.specs.Packing.{word};
 ghost use Rattle.hinet.specs.Entries.{checkedTold, locatedTold};
 ghost use Rattle.hinet.specs.FrameEntries.{frameTold};
 ghost use Rattle.hinet.specs.StationEntries.{stepTold};
+ghost use Rattle.hinet.specs.LineEntries.{writtenTold, readingTold};
 
 // The kinds of answer, in bits 8 to 15.
 const STATUS: u64 = 0x100;
@@ -29,6 +34,10 @@ const TURN: u64 = 0x500;
 const WRITTEN: u64 = 0x600;
 
 const FAULT: u64 = 0x700;
+
+const BITS: u64 = 0x800;
+
+const LINE: u64 = 0x900;
 
 const REQUEST: u64 = 0xD00;
 
@@ -166,4 +175,41 @@ pub fn pack_request(code: u8) -> u64
     ensures { λ r. ⌜ r ≡ word (answers (request-of code)) ⌝ }
 {
     REQUEST + code as u64 * BYTE_0
+}
+
+// A frame of the line: its user number, and the length of its data.
+fn pack_line(user: u8, length: u16) -> u64
+    ensures { λ r. ⌜ r ≡ word (answers (line-of user length)) ⌝ }
+{
+    LINE + user as u64 * BYTE_0 + length as u64 * BYTE_1
+}
+
+// A frame written to the line: its refusal, or how many bits it has.
+pub fn pack_bits(w: Written) -> u64
+    ensures { λ r. ⌜ r ≡ word (writtenTold w) ⌝ }
+{
+    match w {
+        Written::Refused(k) => k as u64,
+        Written::Bits(count) => BITS + count as u64 * BYTE_0,
+    }
+}
+
+// A frame read from the line.
+pub fn pack_reading(a: Reading) -> u64
+    ensures { λ r. ⌜ r ≡ word (readingTold a) ⌝ }
+{
+    match a {
+        Reading::Refused(k) => k as u64,
+        Reading::Frame { user, length } => pack_line(user, length),
+    }
+}
+
+// A frame from the line: another's, or answered as a frame is.
+pub fn pack_received(a: Received) -> u64
+    ensures { λ r. ⌜ r ≡ word (receivedTold a) ⌝ }
+{
+    match a {
+        Received::Another { user, length } => pack_line(user, length),
+        Received::Answered(answer) => pack(answer),
+    }
 }
