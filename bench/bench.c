@@ -2,18 +2,22 @@
  * Times the library against the plain C reference on the same inputs.
  *
  *   bench              every case in every shape: nanoseconds of both and their ratio
- *   bench count N      N calls of each, one after the other, for a counter of
- *                      instructions that looks at `call_often`: names them in turn
+ *   bench count N [GOAL]
+ *                      N calls of each, one after the other, for a counter of
+ *                      instructions that looks at `call_often`: names them in turn.
+ *                      With a goal only the shapes that have it
  *   bench one SIDE CASE SHAPE N
  *                      N calls of one case on one side (lib or ref), no clock
  *   bench names        the cases and the shapes
  *
  * Before each call of a case the tables and the station's state are put back;
- * the case "nothing" does only that, and its cost is taken off.
+ * the case "nothing" does only that, and its cost is taken off. For the frame on
+ * the line the reference is bench/plain_line.c.
  */
 #define _POSIX_C_SOURCE 199309L
 
 #include "hinet.h"
+#include "plain_line.h"
 #include "reference.h"
 #include "shapes.h"
 
@@ -41,6 +45,8 @@ struct side {
     uint64_t (*station_clear)(uint8_t *, size_t);
     uint64_t (*station_frame)(const uint8_t *, size_t, uint8_t *, size_t);
     uint64_t (*station_reply)(uint8_t *, size_t, uint32_t);
+    uint64_t (*line_write)(uint8_t, const uint8_t *, size_t, uint8_t *, size_t);
+    uint64_t (*line_read)(const uint8_t *, size_t, size_t, uint8_t *, size_t);
 };
 
 /* The place by plain numbers, as the reference has it. */
@@ -54,22 +60,23 @@ static uint64_t library_place(uint32_t volume, uint32_t partition, uint32_t trac
 static const struct side library = {
     "lib", hinet_check_tables, hinet_check_site, hinet_frame, library_place, hinet_due, hinet_poll,
     hinet_station_fresh, hinet_station_lock, hinet_station_unlock, hinet_station_clear,
-    hinet_station_frame, hinet_station_reply
+    hinet_station_frame, hinet_station_reply, hinet_line_write, hinet_line_read
 };
 static const struct side reference = {
     "ref", ref_check_tables, ref_check_site, ref_frame, ref_place, ref_due, ref_poll,
     ref_station_fresh, ref_station_lock, ref_station_unlock, ref_station_clear,
-    ref_station_frame, ref_station_reply
+    ref_station_frame, ref_station_reply, plain_line_write, plain_line_read
 };
 
 /* ---- the cases ---- */
 
 static struct inputs inputs;
-static uint8_t locks[LOCKS], stations[STATIONS], state[STATE_LEN];
+static uint8_t locks[LOCKS], stations[STATIONS], state[STATE_LEN], line[LINE_MOST];
 
 enum what {
     NOTHING, CHECK_TABLES, CHECK_SITE, PLACE, FRAME, LOGIN_AGAIN, LOGIN_OTHER, DUE, POLL,
-    STATION_FRESH, STATION_LOCK, STATION_UNLOCK, STATION_CLEAR, STATION_FRAME, STATION_REPLY
+    STATION_FRESH, STATION_LOCK, STATION_UNLOCK, STATION_CLEAR, STATION_FRAME, STATION_REPLY,
+    WRITE_SHORT, WRITE_LONG, READ_SHORT, READ_LONG
 };
 
 struct bench_case {
@@ -113,9 +120,19 @@ static const struct bench_case cases[] = {
     { "station-frame", STATION_FRAME, &inputs.empty, 0, &inputs.waits_full },
     { "station-reply", STATION_REPLY, &inputs.empty, 0, &inputs.waits_full },
     { "station-lock-empty", STATION_LOCK, &inputs.empty, 0, &inputs.idle_empty },
-    { "station-reply-empty", STATION_REPLY, &inputs.empty, 0, &inputs.waits_empty }
+    { "station-reply-empty", STATION_REPLY, &inputs.empty, 0, &inputs.waits_empty },
+    { "line-write-20", WRITE_SHORT, &inputs.empty, 0, &inputs.idle_empty },
+    { "line-write-1024", WRITE_LONG, &inputs.empty, 0, &inputs.idle_empty },
+    { "line-read-20", READ_SHORT, &inputs.empty, 0, &inputs.idle_empty },
+    { "line-read-1024", READ_LONG, &inputs.empty, 0, &inputs.idle_empty }
 };
 enum { CASES = sizeof cases / sizeof *cases };
+
+/* Does a case have inputs in a shape? */
+static int in_shape(const struct bench_case *c, unsigned shape)
+{
+    return c->what == NOTHING || (c->what >= WRITE_SHORT) == (shapes[shape].goal == ON_LINE);
+}
 
 /* The number polled: the last station on full tables, else the only one. */
 static uint8_t number_of(const struct bench_case *c)
@@ -196,6 +213,15 @@ static uint64_t call_station(const struct side *side, const struct bench_case *c
     }
 }
 
+static uint64_t call_line(const struct side *side, const struct bench_case *c)
+{
+    const struct on_line *l =
+        c->what == WRITE_SHORT || c->what == READ_SHORT ? &inputs.short_line : &inputs.long_line;
+    if (c->what == WRITE_SHORT || c->what == WRITE_LONG)
+        return side->line_write(1, l->data, l->data_len, line, LINE_MOST);
+    return side->line_read(l->bits, LINE_MOST, l->count, line, DATA_MOST);
+}
+
 static uint64_t call_once(const struct side *side, const struct bench_case *c,
                           const struct frame *frame)
 {
@@ -216,6 +242,10 @@ static uint64_t call_once(const struct side *side, const struct bench_case *c,
     case DUE:          return side->due(number_of(c), locks, LOCKS, stations, STATIONS);
     case POLL:         return side->poll(number_of(c), 0, locks, LOCKS, stations, STATIONS);
     case NOTHING:      return 0;
+    case WRITE_SHORT:
+    case WRITE_LONG:
+    case READ_SHORT:
+    case READ_LONG:    return call_line(side, c);
     default:           return call_station(side, c);
     }
 }
@@ -276,20 +306,29 @@ static void time_case(const struct bench_case *c, double *lib, double *ref)
 /* Both sides answer the same and leave the same. */
 static int same_outcome(const struct bench_case *c)
 {
-    static uint8_t left[LOCKS + STATIONS + STATE_LEN];
+    static uint8_t left[LOCKS + STATIONS + STATE_LEN], left_line[LINE_MOST];
     struct frame frame;
     frame_of(c, &frame);
+    memset(line, 0xEE, LINE_MOST);
     uint64_t answer = call_once(&library, c, &frame);
     memcpy(left, locks, LOCKS);
     memcpy(left + LOCKS, stations, STATIONS);
     memcpy(left + LOCKS + STATIONS, state, STATE_LEN);
+    memcpy(left_line, line, LINE_MOST);
+    memset(line, 0xEE, LINE_MOST);
     return answer == call_once(&reference, c, &frame)
+        && memcmp(left_line, line, LINE_MOST) == 0
         && memcmp(left, locks, LOCKS) == 0
         && memcmp(left + LOCKS, stations, STATIONS) == 0
         && memcmp(left + LOCKS + STATIONS, state, STATE_LEN) == 0;
 }
 
-static const char *const goals[] = { "in-order", "random", "colliding" };
+/* The goal of a shape, in a word. */
+static const char *goal_of(unsigned shape)
+{
+    static const char *const goals[] = { "in-order", "random", "colliding", "on-line" };
+    return goals[shapes[shape].goal];
+}
 
 static int time_shape(unsigned shape)
 {
@@ -297,6 +336,8 @@ static int time_shape(unsigned shape)
     shape_inputs(shape, &inputs);
     time_case(&cases[0], &none_lib, &none_ref);
     for (unsigned i = 1; i < CASES; i++) {
+        if (!in_shape(&cases[i], shape))
+            continue;
         if (!same_outcome(&cases[i])) {
             printf("%s %s: the two sides differ\n", cases[i].name, shapes[shape].name);
             return 1;
@@ -305,7 +346,7 @@ static int time_shape(unsigned shape)
         lib -= none_lib;
         ref -= none_ref;
         printf("%s %s %s %.0f %.0f %.3f\n", cases[i].name, shapes[shape].name,
-               goals[shapes[shape].goal], lib, ref, lib / ref);
+               goal_of(shape), lib, ref, lib / ref);
     }
     return 0;
 }
@@ -313,23 +354,32 @@ static int time_shape(unsigned shape)
 /* ---- arguments ---- */
 
 /* Each case on each side, with "nothing" first in each shape. */
-static void count_all(unsigned long count)
+static void count_shape(unsigned shape, unsigned long count)
 {
-    for (unsigned shape = 0; shape < SHAPES; shape++) {
-        shape_inputs(shape, &inputs);
-        for (unsigned i = 0; i < CASES; i++) {
-            printf("%s %s %s\n", cases[i].name, shapes[shape].name, goals[shapes[shape].goal]);
-            call_often(&library, &cases[i], count);
-            call_often(&reference, &cases[i], count);
-        }
+    shape_inputs(shape, &inputs);
+    for (unsigned i = 0; i < CASES; i++) {
+        if (!in_shape(&cases[i], shape))
+            continue;
+        printf("%s %s %s\n", cases[i].name, shapes[shape].name, goal_of(shape));
+        call_often(&library, &cases[i], count);
+        call_often(&reference, &cases[i], count);
     }
+}
+
+static int count_all(const char *count, const char *goal)
+{
+    for (unsigned shape = 0; shape < SHAPES; shape++)
+        if (goal == NULL || strcmp(goal_of(shape), goal) == 0)
+            count_shape(shape, strtoul(count, NULL, 10));
+    return 0;
 }
 
 static int one(const char *side, const char *name, const char *shape, const char *count)
 {
     for (unsigned s = 0; s < SHAPES; s++)
         for (unsigned i = 0; i < CASES; i++)
-            if (strcmp(shapes[s].name, shape) == 0 && strcmp(cases[i].name, name) == 0) {
+            if (strcmp(shapes[s].name, shape) == 0 && strcmp(cases[i].name, name) == 0
+                && in_shape(&cases[i], s)) {
                 shape_inputs(s, &inputs);
                 call_often(strcmp(side, "lib") == 0 ? &library : &reference, &cases[i],
                            strtoul(count, NULL, 10));
@@ -343,7 +393,8 @@ static int names(void)
 {
     for (unsigned s = 0; s < SHAPES; s++)
         for (unsigned i = 0; i < CASES; i++)
-            printf("%s %s %s\n", cases[i].name, shapes[s].name, goals[shapes[s].goal]);
+            if (in_shape(&cases[i], s))
+                printf("%s %s %s\n", cases[i].name, shapes[s].name, goal_of(s));
     return 0;
 }
 
@@ -351,10 +402,8 @@ int main(int argc, char **argv)
 {
     if (argc == 6 && strcmp(argv[1], "one") == 0)
         return one(argv[2], argv[3], argv[4], argv[5]);
-    if (argc == 3 && strcmp(argv[1], "count") == 0) {
-        count_all(strtoul(argv[2], NULL, 10));
-        return 0;
-    }
+    if ((argc == 3 || argc == 4) && strcmp(argv[1], "count") == 0)
+        return count_all(argv[2], argc == 4 ? argv[3] : NULL);
     if (argc == 2 && strcmp(argv[1], "names") == 0)
         return names();
     for (unsigned shape = 0; shape < SHAPES; shape++)

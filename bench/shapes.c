@@ -1,6 +1,7 @@
 /* The shapes of the bench's inputs. */
 #include "shapes.h"
 
+#include "plain_line.h"
 #include "reference.h"
 
 #include <stdio.h>
@@ -34,13 +35,20 @@ const struct shape shapes[SHAPES] = {
     { "last-volume", IN_ORDER },
     { "random-mixed", RANDOM },
     { "hash-mixed", COLLIDING },
-    { "hash-last-volume", COLLIDING }
+    { "hash-last-volume", COLLIDING },
+    { "zeros", ON_LINE },
+    { "text", ON_LINE },
+    { "random", ON_LINE },
+    { "FF", ON_LINE },
+    { "1F", ON_LINE }
 };
+
+enum { KEY_SHAPES = 9 };
 
 static const struct {
     enum keys keys;
     enum rows rows;
-} made[SHAPES] = {
+} made[KEY_SHAPES] = {
     { NUMBERED, SORTED }, { NUMBERED, MIXED }, { NUMBERED, ONE_VOLUME },
     { EARLY, MIXED }, { LAST, MIXED }, { LAST, ONE_VOLUME },
     { ANY, MIXED }, { ONE_HASH, MIXED }, { ONE_HASH_LAST, ONE_VOLUME }
@@ -232,9 +240,45 @@ static void make_state(const struct inputs *inputs, struct state *state,
     memcpy(state->bytes + STATE_AWAITED + 1, inputs->strings[listed], 14);
 }
 
+/* ---- the frame on the line ---- */
+
+/* The shapes on the line, in their order. */
+enum fill { FILL_ZEROS, FILL_TEXT, FILL_RANDOM, FILL_FF, FILL_1F };
+
+static void make_text(uint8_t *data, size_t len)
+{
+    static const char text[] = "Dear Sir, we thank you for your order of 12 May. ";
+    for (size_t i = 0; i < len; i++)
+        data[i] = (uint8_t)text[i % (sizeof text - 1)];
+}
+
+static void make_data(struct rng *rng, enum fill fill, uint8_t *data, size_t len)
+{
+    switch (fill) {
+    case FILL_ZEROS: memset(data, 0x00, len); break;
+    case FILL_TEXT:  make_text(data, len); break;
+    case FILL_FF:    memset(data, 0xFF, len); break;
+    case FILL_1F:    memset(data, 0x1F, len); break;
+    default:         rng_bytes(rng, data, len); break;
+    }
+}
+
+static void make_line(struct rng *rng, enum fill fill, struct on_line *line, size_t len)
+{
+    memset(line, 0, sizeof *line);
+    line->data_len = len;
+    make_data(rng, fill, line->data, len);
+    line->count = (size_t)(plain_line_write(1, line->data, len, line->bits, LINE_MOST) >> 16);
+}
+
 void shape_inputs(unsigned i, struct inputs *inputs)
 {
     struct rng rng = rng_from(1982 + i);
+    if (shapes[i].goal == ON_LINE) {
+        make_line(&rng, (enum fill)(i - KEY_SHAPES), &inputs->short_line, 20);
+        make_line(&rng, (enum fill)(i - KEY_SHAPES), &inputs->long_line, DATA_MOST);
+        return;
+    }
     make_site(&rng, &inputs->site, made[i].keys, made[i].rows);
     make_strings(&rng, inputs, made[i].keys);
     for (unsigned k = 0; k < 64; k++)

@@ -2,24 +2,31 @@
  * The inputs of the bench: the largest site file, full tables and a station's
  * state, in several shapes. A shape says how keys (lock strings, user names,
  * partition names, serials) look beside each other, and how the partition rows
- * lie.
+ * lie. The frame on the line has shapes of its own: they say what its data are.
  */
 #ifndef SHAPES_H
 #define SHAPES_H
 
 #include "generate.h"
 
-enum { LOCKS = 1024, STATIONS = 1152 };
+enum { LOCKS = 1024, STATIONS = 1152, DATA_MOST = 1024, LINE_MOST = 1237 };
 
-/* How the keys of a shape go; what the goal for it is. */
-enum goal { IN_ORDER, RANDOM, COLLIDING };
+/* How the keys of a shape go; what the goal for it is. ON_LINE has no keys. */
+enum goal { IN_ORDER, RANDOM, COLLIDING, ON_LINE };
 
 struct shape {
     const char *name;
     enum goal goal;
 };
 
-/* The inputs in one shape. */
+/* A frame on the line: its data, and its bits. */
+struct on_line {
+    size_t data_len, count;
+    uint8_t data[DATA_MOST];
+    uint8_t bits[LINE_MOST];
+};
+
+/* The inputs in one shape. One on the line has the last two alone. */
 struct inputs {
     struct site site;           /* 128 users, 64 partitions */
     struct tables empty;        /* station 1, no locks */
@@ -33,9 +40,11 @@ struct inputs {
     struct state waits_full;    /* waits for a lock, lists 63 */
     uint8_t strings[65][14];    /* the strings of the locks, and one more */
     uint8_t serials[64][4];     /* the serials from station 1 on, and one more */
+    struct on_line short_line;  /* 20 data bytes */
+    struct on_line long_line;   /* 1,024 */
 };
 
-enum { SHAPES = 9 };
+enum { SHAPES = 14 };
 extern const struct shape shapes[SHAPES];
 
 /* Makes the inputs of shape number i. */
