@@ -1,10 +1,11 @@
 // The disk parameters as a person types them in: for each system a line for each field of its block, in the block's order,
 // with a column for each size code, and then the blocks in bytes. All numbers are those of `params`.
-use crate::text::append;
-use crate::text::append_bits;
-use crate::text::append_both;
-use crate::text::append_byte;
-use crate::text::append_column;
+use pages::append;
+use pages::append_bits;
+use pages::append_both;
+use pages::append_bytes;
+use pages::append_column;
+use pages::append_row;
 use params::CpmBlock;
 use params::CpmParameters;
 use params::MsdosBlock;
@@ -142,21 +143,13 @@ fn append_columns(page: &mut [u8], at: usize, line: usize, sizes: Sizes) -> usiz
     next
 }
 
-// What a line is about.
-fn append_label(page: &mut [u8], at: usize, label: &[u8; 26]) -> usize
-    requires { ⌜ at ≤ length (now page) ⌝ }
-    ensures { λ r. ⌜ Counts r (now (page .exit)) ⌝ }
-{
-    append(page, at, label)
-}
-
 // A line: what it is about, and its columns.
 fn append_line(page: &mut [u8], at: usize, line: usize, sizes: Sizes) -> usize
     requires { ⌜ (at ≤ length (now page)) × (line < 21) ⌝ }
     ensures { λ r. ⌜ Counts r (now (page .exit)) ⌝ }
 {
     let label = LABELS[line];
-    let a = append_label(page, at, &label);
+    let a = append_row(page, at, &label);
     let b = append_columns(page, a, line, sizes);
     append(page, b, b"\n")
 }
@@ -171,20 +164,6 @@ fn append_lines(page: &mut [u8], at: usize, first: usize, end: usize, sizes: Siz
     while line < end {
         next = append_line(page, next, line, sizes);
         line += 1;
-    }
-    next
-}
-
-// The bytes of a block.
-fn append_bytes(page: &mut [u8], at: usize, block: &[u8]) -> usize
-    requires { ⌜ at ≤ length (now page) ⌝ }
-    ensures { λ r. ⌜ Counts r (now (page .exit)) ⌝ }
-{
-    let mut next = at;
-    let mut i: usize = 0;
-    while i < block.len() {
-        next = append_byte(page, next, block[i]);
-        i += 1;
     }
     next
 }

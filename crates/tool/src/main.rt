@@ -1,12 +1,12 @@
 // The commands of ./hinet. A program has no status of its own: where its first argument is --status, it writes one
 // digit to descriptor 3 at its end. What cannot be read or written is told on standard error.
 mod disks;
-mod text;
 mod words;
 
 use disks::Sizes;
 use libc::STDERR_FILENO;
 use libc::STDOUT_FILENO;
+use pages::frame;
 use params::CpmParameters;
 ghost use Prim.Native.Nat.{_<_};
 ghost use Rattle.io.specs.Counts.{Counts};
@@ -23,6 +23,11 @@ const FAILED: u8 = b'3';
 
 // Where the status goes.
 const STATUS_FILENO: i32 = 3;
+
+// The longest name of a file, and room for a line: that name and the words about it, which are fewer than 200.
+const NAME: usize = 4095;
+
+const LINE: usize = 4295;
 
 // After a file: its status, and whether there is more to do.
 struct After {
@@ -60,11 +65,11 @@ fn status_of(good: bool) -> u8 {
 
 // Checks the bytes of a site file and prints the line for it.
 fn check_bytes(name: &[u8], file: &[u8]) -> After {
-    let mut line = [0u8; text::LINE];
-    let a = text::append(&mut line, 0, name);
+    let mut line = [0u8; LINE];
+    let a = pages::append(&mut line, 0, name);
     let verdict = words::append_verdict(&mut line, a, file);
     let b = verdict.end;
-    let end = text::append(&mut line, b, b"\n");
+    let end = pages::append(&mut line, b, b"\n");
     say(&line[..end], status_of(verdict.good))
 }
 
@@ -80,14 +85,14 @@ fn unread() -> After {
 fn name_file(what: &mut [u8], name: &[u8]) -> usize
     ensures { λ r. ⌜ Counts r (now (what .exit)) ⌝ }
 {
-    let a = text::append(what, 0, b"hinet: ");
-    text::append(what, a, name)
+    let a = pages::append(what, 0, b"hinet: ");
+    pages::append(what, a, name)
 }
 
 // Checks the site file of this name.
 fn check_named(name: &[u8]) -> After {
     let mut file = [0u8; site::ROOM];
-    let mut what = [0u8; text::LINE];
+    let mut what = [0u8; LINE];
     let n = name_file(&mut what, name);
     let reach = files::read_file(name, &what[..n], &mut file);
     if reach.failed {
@@ -99,7 +104,7 @@ fn check_named(name: &[u8]) -> After {
 
 // Of a name that is too long the first bytes are told, with the system's words for it.
 fn refuse_name(name: &[u8]) -> After {
-    let mut what = [0u8; text::LINE];
+    let mut what = [0u8; LINE];
     let n = name_file(&mut what, name);
     os::fail(&what[..n]);
     unread()
@@ -107,7 +112,7 @@ fn refuse_name(name: &[u8]) -> After {
 
 // Checks the site file that argument i names.
 fn check_argument(i: usize) -> After {
-    let mut name = [0u8; text::NAME];
+    let mut name = [0u8; NAME];
     let n = os::arg(i, &mut name);
     if os::errno() != 0 {
         return refuse_name(&name);
@@ -188,9 +193,52 @@ fn parameters(first: usize, count: usize) -> u8 {
     if first + 1 < count {
         return misused(b"parameters: more than one SIZE", b"");
     }
-    let mut word = [0u8; text::NAME];
+    let mut word = [0u8; NAME];
     let n = os::arg(first, &mut word);
     print_size(&word[..n])
+}
+
+// Argument i is this word.
+fn is_word(i: usize, text: &[u8]) -> bool {
+    let mut word = [0u8; 8];
+    let n = os::arg(i, &mut word);
+    rows::is_same(&word[..n], text)
+}
+
+// Writes the frame whose user number and data argument i has in hex, and prints its bits.
+fn line_write(i: usize) -> u8 {
+    let mut text = [0u8; frame::TEXT];
+    let n = os::arg(i, &mut text);
+    let mut page = [0u8; frame::PAGE];
+    let told = frame::append_written(&mut page, &mut text, n);
+    let end = told.end;
+    say(&page[..end], status_of(told.good)).status
+}
+
+// Reads the frame whose bits argument i has, and prints what was read.
+fn line_read(i: usize) -> u8 {
+    let mut text = [0u8; frame::TEXT];
+    let n = os::arg(i, &mut text);
+    let mut page = [0u8; frame::PAGE];
+    let told = frame::append_read(&mut page, &text[..n]);
+    let end = told.end;
+    say(&page[..end], status_of(told.good)).status
+}
+
+// The command line, which argument i is: what follows it is `write` and bytes, or `read` and bits.
+fn line(i: usize, count: usize) -> u8
+    requires { ⌜ i < count ⌝ }
+{
+    if count - i != 3 {
+        return misused(b"line: write BYTES or read BITS", b"");
+    }
+    if is_word(i + 1, b"write") {
+        return line_write(i + 2);
+    }
+    if is_word(i + 1, b"read") {
+        return line_read(i + 2);
+    }
+    misused(b"line: write BYTES or read BITS", b"")
 }
 
 // Runs the command that argument i is.
@@ -198,7 +246,7 @@ fn run(i: usize, count: usize) -> u8 {
     if count <= i {
         return misused(b"no command", b"");
     }
-    let mut word = [0u8; text::NAME];
+    let mut word = [0u8; NAME];
     let n = os::arg(i, &mut word);
     if rows::is_same(&word[..n], b"check-site") {
         return check_site(i + 1, count);
@@ -206,14 +254,10 @@ fn run(i: usize, count: usize) -> u8 {
     if rows::is_same(&word[..n], b"parameters") {
         return parameters(i + 1, count);
     }
+    if rows::is_same(&word[..n], b"line") {
+        return line(i, count);
+    }
     misused(b"unknown command: ", &word[..n])
-}
-
-// Argument 1 is --status.
-fn asks_status() -> bool {
-    let mut word = [0u8; 8];
-    let n = os::arg(1, &mut word);
-    rows::is_same(&word[..n], b"--status")
 }
 
 // Writes the status.
@@ -226,7 +270,7 @@ fn tell_status(status: u8) {
 
 fn main() {
     let count = os::arg_count();
-    if asks_status() {
+    if is_word(1, b"--status") {
         tell_status(run(2, count));
     } else {
         run(1, count);

@@ -1,8 +1,8 @@
 // What is said of a site file behind its name. Whether it is good, and what its first fault is, `site::check` alone
 // says; here the fault is put into words, with the fields that it is about.
-use crate::text::append;
-use crate::text::append_both;
-use crate::text::append_count;
+use pages::append;
+use pages::append_both;
+use pages::append_count;
 use site::Breach;
 use site::Checked;
 use site::Fault;

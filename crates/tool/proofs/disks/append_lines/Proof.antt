@@ -1,6 +1,6 @@
 use Prim.Native.Nat.{_-_}
 use native.Mathlib.Omega.{arith}
-use Rattle.tool.proofs.PageLaws.{Filling, counted}
+use Rattle.pages.proofs.PageLaws.{Filling, counted}
 use Rattle.tool.proofs.disks.append_lines.Statement.{statement}
 use Rattle.tool.proofs.disks.append_lines.Tie as tie
 

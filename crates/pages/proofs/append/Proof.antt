@@ -2,8 +2,8 @@ use native.Mathlib.Omega.{arith}
 use mathlib.Core.Path.{sym}
 use lib.Seq.{length-take-le}
 use borrow.Author.Needs.{needs}
-use Rattle.tool.proofs.text.append.Statement.{statement}
-use Rattle.tool.proofs.text.append.Tie as tie
+use Rattle.pages.proofs.append.Statement.{statement}
+use Rattle.pages.proofs.append.Tie as tie
 
 returns : tie.Need-returns
 returns c = (omega arith, sym (length-take-le _ _ (omega arith)))

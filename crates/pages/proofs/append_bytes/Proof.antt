@@ -1,15 +1,15 @@
 use Prim.Native.Nat.{_-_}
 use native.Mathlib.Omega.{arith}
 use lib.ListN.{length}
-use Rattle.tool.proofs.PageLaws.{Filling, counted}
-use Rattle.tool.proofs.disks.append_bytes.Statement.{statement}
-use Rattle.tool.proofs.disks.append_bytes.Tie as tie
+use Rattle.pages.proofs.PageLaws.{Filling, counted}
+use Rattle.pages.proofs.append_bytes.Statement.{statement}
+use Rattle.pages.proofs.append_bytes.Tie as tie
 
 abbrev Inv-loop : tie.InvT-loop
-Inv-loop page₀ at block next₀ i₀ page next i = Filling page₀ page next
+Inv-loop line₀ at bytes next₀ i₀ line next i = Filling line₀ line next
 
 abbrev μ-loop : tie.MeasureT-loop
-μ-loop page₀ at block next₀ i₀ page next i = length block - i
+μ-loop line₀ at bytes next₀ i₀ line next i = length bytes - i
 
 pub append-bytes-spec : {M : Type 1} → statement M
 append-bytes-spec =

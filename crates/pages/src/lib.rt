@@ -1,13 +1,10 @@
-// Text put together in lent bytes, so that a line is written at once. Each function puts its text down behind the first
-// `at` bytes and answers where it ends.
+// Text put together in lent bytes, so that a line or a page is written at once. Each function puts its text down behind the
+// first `at` bytes and answers where it ends.
+pub mod frame;
+
 ghost use Prim.Native.Nat.{_≤_};
 ghost use lib.ListN.{length};
 ghost use Rattle.io.specs.Counts.{Counts};
-
-// The longest name of a file, and room for a line: that name and the words about it, which are fewer than 200.
-pub const NAME: usize = 4095;
-
-pub const LINE: usize = 4295;
 
 // The text, or nothing where it does not fit.
 pub fn append(line: &mut [u8], at: usize, text: &[u8]) -> usize
@@ -19,6 +16,14 @@ pub fn append(line: &mut [u8], at: usize, text: &[u8]) -> usize
     }
     rows::put(line, at, text);
     at + text.len()
+}
+
+// A row of 26 characters.
+pub fn append_row(line: &mut [u8], at: usize, row: &[u8; 26]) -> usize
+    requires { ⌜ at ≤ length (now line) ⌝ }
+    ensures { λ r. ⌜ Counts r (now (line .exit)) ⌝ }
+{
+    append(line, at, row)
 }
 
 // A number in decimal.
@@ -79,7 +84,7 @@ pub fn append_column(line: &mut [u8], at: usize, n: u64) -> usize
 }
 
 // The last hexadecimal digit of a byte.
-fn digit(b: u8) -> u8 {
+pub fn digit(b: u8) -> u8 {
     let d = b % 16;
     if d < 10 { b'0' + d } else { b'A' + (d - 10) }
 }
@@ -100,4 +105,18 @@ pub fn append_byte(line: &mut [u8], at: usize, b: u8) -> usize
 {
     let text = [b' ', digit(b / 16), digit(b)];
     append(line, at, &text)
+}
+
+// Bytes in hex, each behind a space.
+pub fn append_bytes(line: &mut [u8], at: usize, bytes: &[u8]) -> usize
+    requires { ⌜ at ≤ length (now line) ⌝ }
+    ensures { λ r. ⌜ Counts r (now (line .exit)) ⌝ }
+{
+    let mut next = at;
+    let mut i: usize = 0;
+    while i < bytes.len() {
+        next = append_byte(line, next, bytes[i]);
+        i += 1;
+    }
+    next
 }
