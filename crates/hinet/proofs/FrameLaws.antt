@@ -18,7 +18,7 @@ use Rattle.terms.specs.declared.LockString.{LockString}
 use Rattle.frames.specs.declared.Command.{Command}
 use Rattle.frames.specs.declared.Request.{Request}
 use Rattle.frames.specs.declared.Reading.{Reading}
-use Rattle.frames.specs.Table.{ACKNOWLEDGE, READ, WRITE, LOGIN, ASSIGN, LOCK, UNLOCK, CLEAR, LOGOUT, frameTable, lengthIn, frameLength, carriesAddress}
+use Rattle.frames.specs.Table.{frameLength, carriesAddress}
 use Rattle.frames.specs.Requests.{plain, carried}
 use Rattle.frames.specs.Reading.{code, refusalOf, requestIn, readingOf}
 use Rattle.frames.specs.Writing.{codeOf, frameOf, writtenOf, bufferAfter}
@@ -27,6 +27,7 @@ use Rattle.frames.proofs.WriteLaws.{frame-long}
 use Rattle.frames.proofs.FieldLaws.{fields-read}
 pub use Rattle.frames.proofs.RoundTrips.{Sized, TrackFits, Typed}
 use Rattle.frames.proofs.RoundTrips.{reads-back}
+use Rattle.master.proofs.LineLaws.{frame-short}
 use Rattle.master.specs.Answers.{answers, frame-of, request-of}
 use Rattle.hinet.specs.Packing.{word, refusalIn, toldIn}
 use Rattle.hinet.specs.Entries.{addressOf}
@@ -38,25 +39,11 @@ pub part-all : (l : List ℕ) (n : ℕ) → length l ≡ n → part l 0 n ≡ l
 unfolding part
 part-all l n e = take-all n l (omega arith)
 
--- a frame is short
-length-small : (k : ℕ) → frameLength k < 256
-unfolding frameLength lengthIn frameTable
-length-small k =
-    either (eqb k ACKNOWLEDGE) 1 _ (omega arith)
-    (either (eqb k READ) 8 _ (omega arith)
-    (either (eqb k WRITE) 8 _ (omega arith)
-    (either (eqb k LOGIN) 20 _ (omega arith)
-    (either (eqb k ASSIGN) 15 _ (omega arith)
-    (either (eqb k LOCK) 15 _ (omega arith)
-    (either (eqb k UNLOCK) 15 _ (omega arith)
-    (either (eqb k CLEAR) 1 _ (omega arith)
-    (either (eqb k LOGOUT) 2 0 (omega arith) (omega arith)))))))))
-
 pub written-short : (q : Request) → Sized q → (n : ℕ) → writtenOf q n .length < 256
 unfolding writtenOf
 written-short q sized n = by-test (ltb n (length (frameOf q)))
     (λ y. rw y (omega arith))
-    (λ m. rw (m, frame-long q (q .command) sized refl) (length-small (codeOf (q .command))))
+    (λ m. rw (m, frame-long q (q .command) sized refl) (omega (arith, frame-short (codeOf (q .command)))))
 
 -- an entry writes the request that its contract names
 pub composed : {p q : Request} (b : List ℕ) {r : ℕ} {b′ : List ℕ} → p ≡ q → Composes p b r b′ → Composes q b r b′

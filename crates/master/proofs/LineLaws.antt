@@ -33,7 +33,7 @@ use Rattle.master.proofs.Outcomes.{told-one, line-not-told}
 use Rattle.master.specs.Line.{MASTER, heardEffect, lineEffect, receivedTold}
 
 -- no request has more than 20 bytes
-frame-short : (c : ℕ) → frameLength c < 21
+pub frame-short : (c : ℕ) → frameLength c < 21
 unfolding frameLength lengthIn frameTable
 frame-short c =
     either (eqb c ACKNOWLEDGE) 1 _ (omega arith)
