@@ -1213,8 +1213,8 @@ static inline uint16_t hinet_msdos_sectors_per_track(const uint8_t *block)
  * Buffers. 1237 bytes hold the bits of any frame that hinet_line_write writes:
  * 32 of the flags, 8216 of the content, and a zero for every five of these at
  * most, 9891 in all. Received bits need more where more flags stand before the
- * content, a byte for each: HiNet masters sent several. 1024 bytes hold the
- * data of any frame; a shorter buffer does where the data are fewer,
+ * content, a byte for each: HiNet sends several. 1024 bytes hold the data of
+ * any frame; a shorter buffer does where the data are fewer,
  * as 20 bytes do for every request frame.
  *
  * Two different contents never have the same bits, and what hinet_line_write
