@@ -1,6 +1,5 @@
 // Searches over the rows of a site file. Each ends at the first row that fits.
 use crate::Breach;
-use crate::PartitionRow;
 use crate::layout;
 use crate::sizes;
 use terms::Partition;
@@ -12,7 +11,7 @@ ghost use lib.ListN.{length};
 ghost use Rattle.rows.specs.Words.{first};
 ghost use Rattle.site.specs.declared.Breach.the-variants.{Overlap};
 ghost use Rattle.site.specs.declared.Fault.the-variants.{InPartition};
-ghost use Rattle.site.specs.Layout.{partitions, partitionsFrom, wholeLength, nameAt, partitionRow};
+ghost use Rattle.site.specs.Layout.{partitions, partitionsFrom, wholeLength, nameAt, rowAt, partitionRow};
 ghost use Rattle.site.specs.Faults.{earlierRow};
 ghost use Rattle.site.specs.Rules.{sameName, namedAt, ranged, meet, partitionNumbered, partitionsOverlap};
 
@@ -91,15 +90,18 @@ pub fn earlier_number(file: &[u8], from: usize, i: usize) -> usize
     find_number(file, from, i, volume, partition)
 }
 
-// Each row begins before the other ends.
-fn rows_meet(r: PartitionRow, s: PartitionRow) -> bool
-    requires { ⌜ (ranged r ≡ true) × (ranged s ≡ true) ⌝ }
-    ensures { λ b. ⌜ b ≡ meet r s ⌝ }
+// Of the rows at bytes a and b each begins before the other ends, whatever their volumes.
+fn rows_meet(file: &[u8], a: usize, b: usize) -> bool
+    requires { ⌜ (a + 24 ≤ length (now file)) × (b + 24 ≤ length (now file)) ⌝ }
+    requires { ⌜ (ranged (rowAt (now file) a) ≡ true) × (ranged (rowAt (now file) b) ≡ true) ⌝ }
+    ensures { λ r. ⌜ r ≡ meet (rowAt (now (file .entry)) a) (rowAt (now (file .entry)) b) ⌝ }
 {
-    if s.first + sizes::sectors(s.size) <= r.first {
+    let first_a = rows::four_at(file, a + 18);
+    let first_b = rows::four_at(file, b + 18);
+    if first_b + sizes::sectors(file[b + 16]) <= first_a {
         return false;
     }
-    s.first < r.first + sizes::sectors(r.size)
+    first_b < first_a + sizes::sectors(file[a + 16])
 }
 
 // Partition rows i and j are on one volume and overlap.
@@ -113,7 +115,7 @@ fn rows_overlap(file: &[u8], from: usize, i: usize, j: usize) -> bool
     if file[a + 14] != file[b + 14] {
         return false;
     }
-    rows_meet(layout::row_of(file, from, i), layout::row_of(file, from, j))
+    rows_meet(file, a, b)
 }
 
 // The first of the rows before partition row i that it overlaps, or i.
