@@ -75,11 +75,11 @@
  *     hinet_poll                                                1680
  *     hinet_line_frame                                           960
  *     hinet_line_read                                            880
- *     hinet_frame                                                624
+ *     hinet_frame                                                616
  *     hinet_line_write                                           576
- *     hinet_place                                                368
+ *     hinet_place                                                360
  *     hinet_station_frame, _unlock, _reply                       336
- *     hinet_check_site                                           320
+ *     hinet_check_site                                           312
  *     hinet_check_tables, hinet_due, hinet_station_lock          304
  *     hinet_station_clear                                        272
  *     hinet_write_...                                            120
