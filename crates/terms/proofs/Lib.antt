@@ -1,2 +1,4 @@
 pub mod StringLaws
+pub mod NameLaws
+pub mod PatternLaws
 pub mod TableLaws

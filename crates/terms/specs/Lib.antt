@@ -1,3 +1,4 @@
 pub mod Strings
+pub mod Names
 pub mod Tables
 pub mod Shortcuts

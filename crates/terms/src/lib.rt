@@ -1,5 +1,6 @@
 // The terms of the rules as types. Volume, partition, track and sector are four types, so that none can be passed where
 // another is due. A lock string travels by value, as thirteen bytes beside its length.
+pub mod names;
 pub mod table;
 
 ghost use mathlib.Core.Path.{_≡_};
