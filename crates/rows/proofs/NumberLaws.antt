@@ -2,20 +2,20 @@
 use Prim.Native.Nat.{ℕ, zero, suc, _+_, _-_, _*_, _/_, _%_, _^_, _≤_, _<_}
 use native.Mathlib.Omega.{arith}
 use native.Mathlib.Nat.{pow-suc, pow-succ', mul-assoc, add-zero, one-mul, div-lt-iff-lt-mul, div-div-eq-div-mul}
-use mathlib.Core.Path.{_≡_, refl, sym, ap, ap₂, _∙_, subst}
+use mathlib.Core.Path.{_≡_, refl, sym, ap, _∙_, subst}
 use mathlib.Core.Bool.{true, false}
 use mathlib.Core.List.{List, [], _∷_, _++_}
-use lib.Dec.{ltb, eqb, lit<}
-use lib.ListN.{length, drop, getD, length-drop, List·getD-eq-default}
+use lib.Dec.{ltb, lit<}
+use lib.ListN.{length, drop, getD, length-take, length-drop, List·getD-eq-default}
 use lib.Seq.{take-add, drop-drop, length-take-le, ext-getD}
 use lib.Pow.{pow-pos}
 use borrow.Author.Tests.{ltb-true, ltb-false, eqb-true, eq-eqb, ne-eqb}
-use Rattle.rows.proofs.BoolLaws.{by-test, contra, iff}
+use Rattle.rows.proofs.BoolLaws.{by-test, contra}
 use Rattle.rows.proofs.IndexLaws.{all-at}
 use Rattle.rows.specs.Words.{all, build, same, zeroAt}
 use Rattle.rows.specs.Rows.{part}
 use Rattle.rows.specs.Numbers.{lowFirst, lowBytes, bitAt}
-use Rattle.rows.proofs.BuildLaws.{build-list, same-is, same-refl}
+use Rattle.rows.proofs.BuildLaws.{build-list, same-refl}
 use Rattle.rows.proofs.RowLaws.{length-part, getD-part}
 
 pub length-lowBytes : (n x : ℕ) → length (lowBytes n x) ≡ n
@@ -45,21 +45,17 @@ bytes-back (b ∷ bs) h =
 abbrev pub Bytes : List ℕ → Type 0
 Bytes l = (i : ℕ) → getD l i 0 < 256
 
+-- so is every element of a part
+pub bytes-part : (l : List ℕ) (at n : ℕ) → Bytes l → Bytes (part l at n)
+unfolding part
+bytes-part l at n b i = by-test (ltb i n)
+    (λ y. rw (getD-part l at n i (ltb-true i n y)) (b (at + i)))
+    (λ f. rw (List·getD-eq-default (part l at n) 0 {n = i} (omega (arith, length-take n (drop at l), ltb-false i n f))) (lit< tt))
+
 -- the number in a part stands in the bytes of that part
 pub part-back : (l : List ℕ) (at n : ℕ) → Bytes l → at + n ≤ length l → lowBytes n (lowFirst (part l at n)) ≡ part l at n
 part-back l at n b h =
-    ap (λ (k : ℕ). lowBytes k (lowFirst (part l at n))) (sym (length-part l at n h)) ∙ bytes-back (part l at n) small
-  where
-    small : Bytes (part l at n)
-    small i = by-test (ltb i n)
-        (λ y. rw (getD-part l at n i (ltb-true i n y)) (b (at + i)))
-        (λ f. rw (List·getD-eq-default (part l at n) 0 {n = i} (omega (arith, length-part l at n h, ltb-false i n f))) (lit< tt))
-
--- as many bytes hold the same number just where they are the same
-pub same-low : (a b : List ℕ) → Bytes a → Bytes b → length a ≡ length b → eqb (lowFirst a) (lowFirst b) ≡ same a b
-same-low a b small-a small-b long = iff (eqb (lowFirst a) (lowFirst b)) (same a b)
-    (λ y. rw (sym (bytes-back a small-a) ∙ ap₂ lowBytes long (eqb-true (lowFirst a) (lowFirst b) y) ∙ bytes-back b small-b) (same-refl b))
-    (λ y. eq-eqb (lowFirst a) (lowFirst b) (ap lowFirst (same-is a b y)))
+    ap (λ (k : ℕ). lowBytes k (lowFirst (part l at n))) (sym (length-part l at n h)) ∙ bytes-back (part l at n) (bytes-part l at n b)
 
 -- bytes hold the number 0 just where they are zeros
 low-zero : (l : List ℕ) → lowFirst l ≡ 0 → (k : ℕ) → getD l k 0 ≡ 0

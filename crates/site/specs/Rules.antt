@@ -4,7 +4,8 @@ use mathlib.Core.Bool.{Bool, not, _&&_}
 use mathlib.Core.List.{List}
 use lib.Dec.{eqb, leb, ltb}
 use lib.ListN.{length}
-use Rattle.rows.specs.Words.{all, any, same, zeros}
+use Rattle.rows.specs.Words.{all, any, zeros}
+use Rattle.terms.specs.Names.{sameName}
 use Rattle.terms.specs.declared.Volume.{Volume}
 use Rattle.terms.specs.declared.Partition.{Partition}
 use Rattle.site.specs.declared.PartitionRow.{PartitionRow}
@@ -18,10 +19,6 @@ goodHeader f =
     && (eqb (userOffset f) usersFrom
     && (eqb (partitionOffset f) (partitionsFrom f)
     && eqb (length f) (wholeLength f))))
-
--- names are compared byte by byte
-unfoldable pub sameName : List ℕ → List ℕ → Bool
-sameName a b = same a b
 
 -- the row with index i has this name
 unfoldable pub namedAt : List ℕ → ℕ → ℕ → List ℕ → ℕ → Bool

@@ -1,14 +1,13 @@
 -- What the checks keep of the rows that went by, so as to compare a row with them only where it must be, and the words of the check's
 -- inner contracts. No rule names these words.
-use Prim.Native.Nat.{ℕ, _+_, _*_, _%_, _<_, max}
+use Prim.Native.Nat.{ℕ, _+_, _*_, _/_, _%_, _<_, max}
 use mathlib.Core.Bool.{Bool, cond}
 use mathlib.Core.List.{List}
 use lib.Dec.{leb, ltb}
 use lib.ListN.{getD, set}
 use Rattle.rows.specs.Marks.{hash}
-use Rattle.rows.specs.Numbers.{lowFirst}
-use Rattle.rows.specs.Rows.{part}
 use Rattle.rows.specs.Words.{first, fails}
+use Rattle.terms.specs.Shortcuts.{nameSolid}
 use Rattle.site.specs.declared.PartitionRow.{PartitionRow}
 use Rattle.site.specs.declared.Fault.the-variants.{InPartition}
 use Rattle.site.specs.declared.Checked.{Checked}
@@ -19,7 +18,7 @@ use Rattle.site.specs.Rules.{sectors, sound, nameAlone, numberAlone, apa
 
 -- the hash of a name; of volume and number of partition row i
 unfoldable pub nameHash : List ℕ → ℕ
-nameHash name = hash (lowFirst (part name 0 4)) (lowFirst (part name 4 4)) 0 0
+nameHash name = hash (nameSolid name % 4294967296) (nameSolid name / 4294967296) 0 0
 
 unfoldable pub numberHash : List ℕ → ℕ → ℕ
 numberHash f i = (64 * partitionRow f i .volume .0 + partitionRow f i .partition .0) % 256

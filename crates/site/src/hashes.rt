@@ -1,5 +1,6 @@
 // The hashes by which the checks tell most rows apart: of a name, and of volume and number.
 use crate::layout;
+use terms::names;
 ghost use mathlib.Core.Path.{_≡_};
 ghost use Prim.Native.Nat.{_+_, _*_, _≤_, _<_};
 ghost use lib.ListN.{length};
@@ -11,7 +12,10 @@ pub fn name_hash(name: &[u8]) -> usize
     requires { ⌜ length (now name) ≡ 8 ⌝ }
     ensures { λ r. ⌜ (r ≡ nameHash (now (name .entry))) × (r < 1024) ⌝ }
 {
-    rows::marks::hash(rows::four_at(name, 0), rows::four_at(name, 4), 0, 0)
+    let solid = names::solid_of(name);
+    let low = (solid % 4294967296) as u32;
+    let high = (solid / 4294967296) as u32;
+    rows::marks::hash(low, high, 0, 0)
 }
 
 // The hash of volume and number of partition row i, one for each pair in range.

@@ -4,6 +4,7 @@ use crate::layout;
 use crate::sizes;
 use terms::Partition;
 use terms::Volume;
+use terms::names;
 ghost use mathlib.Core.Path.{_≡_};
 ghost use mathlib.Core.Bool.{true};
 ghost use Prim.Native.Nat.{ℕ, _+_, _*_, _≤_, _<_};
@@ -13,24 +14,18 @@ ghost use Rattle.site.specs.declared.Breach.the-variants.{Overlap};
 ghost use Rattle.site.specs.declared.Fault.the-variants.{InPartition};
 ghost use Rattle.site.specs.Layout.{partitions, partitionsFrom, wholeLength, nameAt, rowAt, partitionRow};
 ghost use Rattle.site.specs.Faults.{earlierRow};
-ghost use Rattle.site.specs.Rules.{sameName, namedAt, ranged, meet, partitionNumbered, partitionsOverlap};
+ghost use Rattle.site.specs.Rules.{namedAt, ranged, meet, partitionNumbered, partitionsOverlap};
 
-// Two names are equal. As numbers they are compared at once.
-fn same_name(a: &[u8], b: &[u8]) -> bool
-    requires { ⌜ (length (now a) ≡ 8) × (length (now b) ≡ 8) ⌝ }
-    ensures { λ r. ⌜ r ≡ sameName (now (a .entry)) (now (b .entry)) ⌝ }
-{
-    rows::eight_at(a, 0) == rows::eight_at(b, 0)
-}
-
-// The first of n rows of w bytes, where the rows begin at `from`, with this name; or n.
+// The first of n rows of w bytes, where the rows begin at `from`, with this name; or n. The padding of the name is looked for
+// once, and each row is one comparison.
 pub fn find_name(file: &[u8], from: usize, w: usize, n: usize, name: &[u8]) -> usize
     requires { ⌜ (from + w * n ≤ length (now file)) × (8 ≤ w) × (length (now name) ≡ 8) ⌝ }
     ensures { λ r. ⌜ r ≡ first (namedAt (now (file .entry)) from w (now (name .entry))) n ⌝ }
 {
+    let pattern = names::pattern_of(name);
     let mut i: usize = 0;
     while i < n {
-        if same_name(layout::name_at(file, from, w, i), name) {
+        if names::matches(layout::name_at(file, from, w, i), pattern) {
             return i;
         }
         i += 1;

@@ -50,7 +50,7 @@ name-alone-requires c κs =
     let a = turn .before .before .args in
     let map = turn .loop .map in
     let here = marks .before .name-hash .ensures .0 ∙ ap nameHash (marks .before .before .before .name-at .ensures) in
-    ((omega (arith, row-end (a .w) (test .loop-test .taken)), omega arith), λ new. unseen-alone 32 (now (a .file)) (a .from) (a .w) map (turn .loop .i) (turn .loop .inv .1) (ap (marked map) (sym here) ∙ sym (marks .mark .ensures .0) ∙ new))
+    ((omega (arith, row-end (a .w) (test .loop-test .taken)), omega arith), λ new. unseen-alone 32 (now (a .file)) (a .from) (a .w) map (turn .loop .i) (λ j. turn .before .shared-slice-known .given j .fits) (omega (arith, row-end (a .w) (test .loop-test .taken))) (omega arith) (turn .loop .inv .1) (ap (marked map) (sym here) ∙ sym (marks .mark .ensures .0) ∙ new))
 
 returns : tie.Need-returns Inv-loop μ-loop
 returns c =
