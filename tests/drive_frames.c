@@ -185,11 +185,13 @@ static void lock_repeated(unsigned row)
 
 static void user_repeated(unsigned row)
 {
+    name_repadded(&rng, site.bytes + 8 + 16 * row);
     site_has_fault(PART_USER, row, BREACH_NAME);
 }
 
 static void name_repeated(unsigned row)
 {
+    name_repadded(&rng, site.bytes + 8 + 24 * row);
     site_has_fault(PART_PARTITION, row, BREACH_NAME);
 }
 
@@ -433,7 +435,7 @@ static void assign_agrees(uint64_t answer)
     unsigned rows = site_partitions(&site), i = 0;
     if (hinet_answer_assign_size(answer) == HINET_ASSIGN_DENIED)
         return;
-    while (i < rows && memcmp(site_partition(&site, i), frame.bytes + 1, 8) != 0)
+    while (i < rows && !equal_names(site_partition(&site, i), frame.bytes + 1))
         i++;
     expect(i < rows, "assigned what the site file does not have");
     const uint8_t *row = site_partition(&site, i);

@@ -39,6 +39,11 @@ struct site {
     uint8_t bytes[SITE_ROOM];
 };
 
+/* A name stays the same name when its padding, the zeros and spaces at its end,
+ * is drawn anew. */
+void name_repadded(struct rng *rng, uint8_t name[8]);
+int equal_names(const uint8_t a[8], const uint8_t b[8]);
+
 /* A good file, its partitions on 1 to 4 volumes, some touching. */
 void site_good(struct rng *rng, struct site *site,
                unsigned users, unsigned partitions, unsigned volumes);
@@ -75,7 +80,7 @@ enum site_damage {
     SITE_SIZE_0, SITE_SIZE_7, SITE_SIZE_255,
     SITE_ENDS_1_BEYOND, SITE_FIRST_WRAPS, SITE_FIRST_HUGE,
     SITE_SPARE_1, SITE_SPARE_2,
-    SITE_USER_TWICE, SITE_NAME_TWICE, SITE_NUMBER_TWICE,
+    SITE_USER_TWICE, SITE_USER_PADDED, SITE_NAME_TWICE, SITE_NAME_PADDED, SITE_NUMBER_TWICE,
     SITE_OVERLAP_BELOW, SITE_OVERLAP_ABOVE, SITE_OVERLAP_INSIDE,
     SITE_DAMAGES
 };

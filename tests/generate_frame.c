@@ -44,6 +44,13 @@ static void draw_track_and_sector(struct rng *rng, uint8_t *frame)
     frame[6] = rng_one_in(rng, 2) ? RNG_PICK(rng, sectors) : (uint8_t)(1 + rng_below(rng, 128));
 }
 
+/* Zeros and spaces at the end change places. */
+static void turn_padding(uint8_t *bytes, unsigned len)
+{
+    for (; len > 0 && (bytes[len - 1] == 0 || bytes[len - 1] == ' '); len--)
+        bytes[len - 1] ^= ' ';
+}
+
 /* A name and a password, from a row or near it; row is NULL for none. */
 static void draw_name(struct rng *rng, const uint8_t *row, uint8_t *name)
 {
@@ -52,11 +59,15 @@ static void draw_name(struct rng *rng, const uint8_t *row, uint8_t *name)
         rng_bytes(rng, name, 14);
     else
         memcpy(name, row, 14);
-    switch (rng_below(rng, 8)) {
+    switch (rng_below(rng, 14)) {
     case 0: memset(password, 0, 6); break;
     case 1: password[rng_below(rng, 6)] ^= rng_nonzero(rng); break;
     case 2: name[rng_below(rng, 8)] ^= rng_nonzero(rng); break;
     case 3: memset(password, 0, 6); password[rng_below(rng, 6)] = 1; break;
+    case 4: name_repadded(rng, name); break;
+    case 5: turn_padding(name, 8); break;
+    case 6: turn_padding(password, 6); break;
+    case 7: memmove(name + 1, name, 7); name[0] = rng_one_in(rng, 2) ? 0 : ' '; break;
     default: break;
     }
 }

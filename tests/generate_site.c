@@ -67,30 +67,97 @@ static void swap_partitions(struct site *site, unsigned i, unsigned j)
     memcpy(partition(site, j), row, PARTITION_ROW);
 }
 
-/* ---- good files ---- */
+/* ---- names ---- */
 
-/* Different names: numbered ones, random ones, or ones that differ from a
-   common name (random, zero or blank) in one byte only. */
-static void draw_names(struct rng *rng, uint8_t *rows, size_t row, unsigned count)
+static int pads(uint8_t byte)
 {
-    unsigned style = rng_below(rng, 5), place = rng_below(rng, 8);
+    return byte == 0 || byte == ' ';
+}
+
+void name_repadded(struct rng *rng, uint8_t name[8])
+{
+    for (unsigned k = 8; k > 0 && pads(name[k - 1]); k--)
+        name[k - 1] = rng_one_in(rng, 2) ? 0 : ' ';
+}
+
+/* From the end: as long as both pad they may differ, and then no byte may. */
+int equal_names(const uint8_t a[8], const uint8_t b[8])
+{
+    int padding = 1;
+    for (unsigned k = 8; k > 0; k--) {
+        padding = padding && pads(a[k - 1]) && pads(b[k - 1]);
+        if (!padding && a[k - 1] != b[k - 1])
+            return 0;
+    }
+    return 1;
+}
+
+static int name_taken(const uint8_t *rows, size_t row, unsigned i)
+{
+    for (unsigned j = 0; j < i; j++)
+        if (equal_names(rows + row * j, rows + row * i))
+            return 1;
+    return 0;
+}
+
+/* How the names of a table look beside each other. */
+struct names {
+    enum { ONE_PLACE, NUMBERED, RANDOM, BLANKS, NAME_STYLES } style;
+    unsigned place;
     uint8_t common[8];
-    rng_bytes(rng, common, 8);
-    if (style == 1)
-        memset(common, 0, 8);
-    if (style == 2)
-        memset(common, ' ', 8);
-    for (unsigned i = 0; i < count; i++) {
-        uint8_t *name = rows + row * i;
-        memcpy(name, style == 3 ? (const uint8_t *)"NAME    " : common, 8);
-        if (style == 3)
-            put16(name + 4, (unsigned)('A' + i / 16) | (unsigned)('a' + i % 16) << 8);
-        else if (style == 4)
-            rng_bytes(rng, name, 8);
-        else
-            name[place] = (uint8_t)(common[place] + i);
+};
+
+/* Names that differ from a common one (random, zero or blank) in one byte only;
+ * numbered ones; random ones; ones of zeros, spaces and two letters. */
+static struct names any_names(struct rng *rng)
+{
+    struct names names = { rng_below(rng, NAME_STYLES), rng_below(rng, 8), { 0 } };
+    switch (rng_below(rng, 3)) {
+    case 0:  rng_bytes(rng, names.common, 8); break;
+    case 1:  memset(names.common, ' ', 8); break;
+    default: break;
+    }
+    return names;
+}
+
+static void draw_name(struct rng *rng, const struct names *names, unsigned i, uint8_t *name)
+{
+    static const uint8_t few[] = { 0, ' ', 'A', 'a' };
+    memcpy(name, names->common, 8);
+    switch (names->style) {
+    case NUMBERED:
+        memcpy(name, "NAME    ", 8);
+        put16(name + 4, (unsigned)('A' + i / 16) | (unsigned)('a' + i % 16) << 8);
+        break;
+    case RANDOM:
+        rng_bytes(rng, name, 8);
+        break;
+    case BLANKS:
+        for (unsigned k = 0; k < 8; k++)
+            name[k] = RNG_PICK(rng, few);
+        break;
+    default:
+        name[names->place] = (uint8_t)(name[names->place] + i);
+        break;
     }
 }
+
+/* Different names, padded in one way or in several. */
+static void draw_names(struct rng *rng, uint8_t *rows, size_t row, unsigned count)
+{
+    struct names names = any_names(rng);
+    int padded = rng_one_in(rng, 2);
+    for (unsigned i = 0; i < count; i++) {
+        uint8_t *name = rows + row * i;
+        draw_name(rng, &names, i, name);
+        while (name_taken(rows, row, i))
+            name[names.place]++;
+        if (padded)
+            name_repadded(rng, name);
+    }
+}
+
+/* ---- good files ---- */
 
 static void draw_password(struct rng *rng, uint8_t *password)
 {
@@ -195,8 +262,8 @@ static uint8_t *add_row(struct site *site, unsigned number, uint32_t first)
     unsigned count = site_partitions(site);
     uint8_t *row = partition(site, count);
     memset(row, 0, PARTITION_ROW);
-    memcpy(row, "\xE0 added ", 8);
-    row[7] = (uint8_t)number;
+    memcpy(row, "\xE0 added", 7);
+    row[7] = (uint8_t)('@' + number);
     row[VOLUME] = 3;
     row[NUMBER] = (uint8_t)number;
     row[SIZE] = 1;
@@ -327,19 +394,32 @@ static void damage_row(struct rng *rng, struct site *site, enum site_damage dama
     }
 }
 
+/* The name at first, of so many bytes, stands at second too, padded otherwise. */
+static void pad_both(struct rng *rng, uint8_t *first, uint8_t *second, unsigned length)
+{
+    memset(first + length, 0, 8 - length);
+    memcpy(second, first, 8);
+    name_repadded(rng, first);
+    name_repadded(rng, second);
+    second[7] = first[7] == 0 ? ' ' : 0;
+}
+
 /* Two partition rows on volume 3 that are good one by one. */
 static void damage_pair(struct rng *rng, struct site *site, enum site_damage damage)
 {
     uint8_t *first, *second;
     switch (damage) {
     case SITE_NAME_TWICE:
+    case SITE_NAME_PADDED:
     case SITE_NUMBER_TWICE:
         first = add_row(site, 3, 0);
         second = add_row(site, 4, 50000);
-        if (damage == SITE_NAME_TWICE)
+        if (damage == SITE_NUMBER_TWICE)
+            second[NUMBER] = first[NUMBER];
+        else if (damage == SITE_NAME_TWICE)
             memcpy(second, first, 8);
         else
-            second[NUMBER] = first[NUMBER];
+            pad_both(rng, first, second, 7);
         break;
     case SITE_OVERLAP_BELOW:
         row_below(rng, site, 1);
@@ -355,13 +435,18 @@ static void damage_pair(struct rng *rng, struct site *site, enum site_damage dam
 }
 
 /* The later of the two rows is named. */
-static struct site_fault repeat_user(struct rng *rng, struct site *site)
+static struct site_fault repeat_user(struct rng *rng, struct site *site, enum site_damage damage)
 {
     unsigned count = 2 + rng_below(rng, 127);
     site_good(rng, site, count, rng_below(rng, 10), 2);
     unsigned i = rng_below(rng, count);
     unsigned j = (i + 1 + rng_below(rng, count - 1)) % count;
-    memcpy(user(site, i), user(site, j), 8);
+    if (damage == SITE_USER_TWICE) {
+        memcpy(user(site, i), user(site, j), 8);
+    } else {
+        memcpy(user(site, i), "\xE1 apart", 7);
+        pad_both(rng, user(site, i), user(site, j), 1 + rng_below(rng, 7));
+    }
     struct site_fault fault = { PART_USER, i > j ? i : j, BREACH_NAME };
     return fault;
 }
@@ -370,7 +455,9 @@ static struct site_fault repeat_user(struct rng *rng, struct site *site)
 static unsigned breach_of(enum site_damage damage)
 {
     switch (damage) {
-    case SITE_NAME_TWICE:   return BREACH_NAME;
+    case SITE_NAME_TWICE:
+    case SITE_NAME_PADDED:
+        return BREACH_NAME;
     case SITE_NUMBER_TWICE: return BREACH_NUMBER;
     case SITE_OVERLAP_BELOW:
     case SITE_OVERLAP_ABOVE:
@@ -408,8 +495,8 @@ static struct site_fault damage_partitions(struct rng *rng, struct site *site,
 struct site_fault site_damaged(struct rng *rng, struct site *site, enum site_damage damage)
 {
     struct site_fault header = { PART_HEADER, 0, BREACH_RANGE };
-    if (damage == SITE_USER_TWICE)
-        return repeat_user(rng, site);
+    if (damage == SITE_USER_TWICE || damage == SITE_USER_PADDED)
+        return repeat_user(rng, site, damage);
     if (damage >= SITE_VOLUME_4)
         return damage_partitions(rng, site, damage);
     damage_header(rng, site, damage);
@@ -472,6 +559,13 @@ static void break_range(struct rng *rng, uint8_t *row)
     }
 }
 
+/* The row gets the name of another one; its padding may differ. */
+static void repeat_name(struct rng *rng, uint8_t *row, const uint8_t *other)
+{
+    memmove(row, other, 8);
+    name_repadded(rng, row);
+}
+
 /* Adds a row that breaks these rules, beside rows below count. A long one may
  * overlap several. */
 static struct site_fault add_broken(struct rng *rng, struct site *site,
@@ -481,7 +575,7 @@ static struct site_fault add_broken(struct rng *rng, struct site *site,
     struct site_fault fault = { PART_PARTITION, site_partitions(site), BREACH_RANGE };
     uint8_t *row = add_apart(site);
     if (breaches & 1u << BREACH_NAME)
-        memcpy(row, partition(site, rng_below(rng, count)), 8);
+        repeat_name(rng, row, partition(site, rng_below(rng, count)));
     if (breaches & 1u << BREACH_NUMBER)
         row[NUMBER] = row_to_meet(rng, site, count)[NUMBER];
     if (breaches & 1u << BREACH_OVERLAP) {
@@ -519,7 +613,7 @@ static void break_header(struct rng *rng, struct site *site)
 static struct site_fault break_user(struct rng *rng, struct site *site, unsigned from)
 {
     struct site_fault fault = { PART_USER, from + rng_below(rng, 3), BREACH_NAME };
-    memcpy(user(site, fault.row), user(site, rng_below(rng, fault.row)), 8);
+    repeat_name(rng, user(site, fault.row), user(site, rng_below(rng, fault.row)));
     return fault;
 }
 
@@ -559,8 +653,8 @@ static void spoil_row(struct rng *rng, struct site *site)
     uint8_t *row = partition(site, rng_below(rng, rows));
     const uint8_t *other = partition(site, rng_below(rng, rows));
     switch (rng_below(rng, 8)) {
-    case 0:  memmove(name, user(site, rng_below(rng, users)), 8); break;
-    case 1:  memmove(row, other, 8); break;
+    case 0:  repeat_name(rng, name, user(site, rng_below(rng, users))); break;
+    case 1:  repeat_name(rng, row, other); break;
     case 2:  memmove(row + VOLUME, other + VOLUME, 2); break;
     case 3:  row[VOLUME] = (uint8_t)rng_below(rng, 5); break;
     case 4:  row[NUMBER] = (uint8_t)rng_below(rng, 66); break;

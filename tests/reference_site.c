@@ -53,9 +53,21 @@ static uint32_t sectors(const uint8_t *row)
     return tracks(row) * TRACK_SECTORS;
 }
 
+static int pads(uint8_t byte)
+{
+    return byte == 0 || byte == ' ';
+}
+
+/* Zeros and spaces at the end do not count: from the first byte that differs on,
+ * both names are padding. */
 static int same_name(const uint8_t *a, const uint8_t *b)
 {
-    return memcmp(a, b, 8) == 0;
+    unsigned k = 0;
+    while (k < 8 && a[k] == b[k])
+        k++;
+    while (k < 8 && pads(a[k]) && pads(b[k]))
+        k++;
+    return k == 8;
 }
 
 /* ---- the check ---- */

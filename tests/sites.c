@@ -221,7 +221,7 @@ static const char *const damages[SITE_DAMAGES] = {
     "partition-offset-less", "partition-offset-more", "partition-offset-high-byte",
     "volume-4", "volume-128", "number-64", "number-255",
     "size-0", "size-7", "size-255", "ends-1-beyond", "first-wraps", "first-huge",
-    "spare-1", "spare-2", "user-twice", "name-twice", "number-twice",
+    "spare-1", "spare-2", "user-twice", "user-padded", "name-twice", "name-padded", "number-twice",
     "overlap-below", "overlap-above", "overlap-inside"
 };
 
