@@ -77,10 +77,10 @@
  *     hinet_line_read                                            880
  *     hinet_frame                                                616
  *     hinet_line_write                                           576
- *     hinet_place                                                360
+ *     hinet_place                                                344
  *     hinet_station_frame, _unlock, _reply                       336
- *     hinet_check_site                                           312
  *     hinet_check_tables, hinet_due, hinet_station_lock          304
+ *     hinet_check_site                                           296
  *     hinet_station_clear                                        272
  *     hinet_write_...                                            120
  *     hinet_cpm_parameters, hinet_msdos_parameters               116
@@ -97,10 +97,10 @@
 /* The version of this header and of the archive beside it. The first number
  * goes up where a program that kept to the header may have to be changed, the
  * second where something new can be called. */
-#define HINET_VERSION_MAJOR 3
-#define HINET_VERSION_MINOR 2
+#define HINET_VERSION_MAJOR 4
+#define HINET_VERSION_MINOR 0
 #define HINET_VERSION_PATCH 0
-#define HINET_VERSION "3.2.0"
+#define HINET_VERSION "4.0.0"
 
 #ifdef __cplusplus
 extern "C" {
@@ -359,6 +359,27 @@ static inline const uint8_t *hinet_request_name(const uint8_t *frame)
     return frame + 1;
 }
 
+/* How many of the eight bytes of a name count: all but the zeros and spaces at
+ * its end. */
+static inline unsigned hinet_name_length(const uint8_t *name)
+{
+    unsigned length = HINET_NAME_BYTES;
+    while (length != 0 && (name[length - 1] == 0 || name[length - 1] == ' '))
+        length--;
+    return length;
+}
+
+/* 1 when two names are equal, else 0. */
+static inline int hinet_name_equal(const uint8_t *one, const uint8_t *other)
+{
+    unsigned length = hinet_name_length(one);
+    if (length != hinet_name_length(other))
+        return 0;
+    while (length != 0 && one[length - 1] == other[length - 1])
+        length--;
+    return length == 0;
+}
+
 /* Login, assign: the six bytes of the password. */
 static inline const uint8_t *hinet_request_password(const uint8_t *frame)
 {
@@ -485,6 +506,13 @@ static inline uint8_t hinet_answer_length(uint64_t answer)
  * partitions share a name, or both volume and number. No two partitions on
  * one volume overlap.
  *
+ * Names. DOS stations pad a name with zeros, CP/M stations with spaces. Two
+ * names are equal when they agree after the zeros and spaces at their ends, in
+ * any mix, are dropped. Zeros and spaces in front or inside count, and so do
+ * small and capital letters. This holds for users at login, for partitions at
+ * assign, and where no two rows may share a name. A name of padding alone is a
+ * name like others. Passwords and lock strings are compared byte by byte.
+ *
  * Faults of a site file. Refusal 10 names the first one by part, row and
  * breach, in this order:
  *   The header, then the user rows, then the partition rows, each in file
@@ -574,7 +602,7 @@ static inline uint8_t hinet_record_slow_turns(const uint8_t *stations, unsigned 
     return stations[HINET_STATION_RECORD_BYTES * number + 3];
 }
 
-/* The eight bytes of the name. */
+/* The eight bytes of the name, as it was sent. */
 static inline const uint8_t *hinet_record_name(const uint8_t *stations, unsigned number)
 {
     return stations + HINET_STATION_RECORD_BYTES * number + 4;
@@ -761,7 +789,8 @@ uint64_t hinet_check_site(const uint8_t *site, size_t site_len);
  *                its record is cleared. All four bytes of the serial count,
  *                and nothing else. Serial 00 00 00 00 logs nobody out.
  *                Then the lowest free number from 1 to 63 is logged in
- *                with the sent name, serial and product. The C program adds
+ *                with the sent name, serial and product. The record keeps
+ *                the name as it was sent, with its padding. The C program adds
  *                the login time. Where somebody was logged out, the number
  *                given is the lowest of those, or a lower one. Who was logged
  *                out is not in the answer; see the poll turns.

@@ -178,10 +178,10 @@ static void line_constants(void)
 
 static void version(void)
 {
-    SAME(HINET_VERSION_MAJOR, 3);
-    SAME(HINET_VERSION_MINOR, 2);
+    SAME(HINET_VERSION_MAJOR, 4);
+    SAME(HINET_VERSION_MINOR, 0);
     SAME(HINET_VERSION_PATCH, 0);
-    SAME(strcmp(HINET_VERSION, "3.2.0"), 0);
+    SAME(strcmp(HINET_VERSION, "4.0.0"), 0);
 }
 
 /* ---- types ---- */
@@ -326,6 +326,40 @@ static void request_fields(void)
     SAME(hinet_request_lockstring(login) - login, 1);
     SAME(hinet_lockstring_length(read + 2), 0xA2);
     SAME(hinet_lockstring_bytes(login) - login, 1);
+}
+
+/* Eight bytes of a text. */
+static const uint8_t *named(const char *text)
+{
+    return (const uint8_t *)text;
+}
+
+static void names(void)
+{
+    SAME(hinet_name_length(named("BETTYBOB")), 8);
+    SAME(hinet_name_length(named("BETTY   ")), 5);
+    SAME(hinet_name_length(named("BETTY\0\0\0")), 5);
+    SAME(hinet_name_length(named("A\0 \0    ")), 1);
+    SAME(hinet_name_length(named(" A      ")), 2);
+    SAME(hinet_name_length(named("\0\0A     ")), 3);
+    SAME(hinet_name_length(named("A \0B \0  ")), 4);
+    SAME(hinet_name_length(named("       A")), 8);
+    SAME(hinet_name_length(named("BETTY\xA0\0\0")), 6);
+    SAME(hinet_name_length(named("        ")), 0);
+    SAME(hinet_name_length(named("\0\0\0\0\0\0\0\0")), 0);
+    SAME(hinet_name_equal(named("BETTY   "), named("BETTY\0\0\0")), 1);
+    SAME(hinet_name_equal(named("BETTY \0 "), named("BETTY\0 \0")), 1);
+    SAME(hinet_name_equal(named("        "), named("\0\0\0\0\0\0\0\0")), 1);
+    SAME(hinet_name_equal(named("BETTYBOB"), named("BETTYBOB")), 1);
+    SAME(hinet_name_equal(named("BETTY   "), named("BETTY  X")), 0);
+    SAME(hinet_name_equal(named("BETTY   "), named("BETTI   ")), 0);
+    SAME(hinet_name_equal(named("BETTY   "), named("betty   ")), 0);
+    SAME(hinet_name_equal(named("BETTY   "), named("VETTY   ")), 0);
+    SAME(hinet_name_equal(named(" BETTY  "), named("\0BETTY  ")), 0);
+    SAME(hinet_name_equal(named(" BETTY  "), named("BETTY   ")), 0);
+    SAME(hinet_name_equal(named("BE TTY  "), named("BE\0TTY  ")), 0);
+    SAME(hinet_name_equal(named("BETTYBOB"), named("BETTYBO ")), 0);
+    SAME(hinet_name_equal(named("A       "), named("        ")), 0);
 }
 
 static void row_fields(void)
@@ -648,6 +682,7 @@ int main(void)
     refusal_texts();
     fault_texts();
     request_fields();
+    names();
     row_fields();
     record_fields();
     state_fields();

@@ -1,6 +1,6 @@
-/* A worked example: a site file that is checked and one that breaks a rule, a
+/* A worked example: a site file that is checked and two that break a rule, a
  * login, a partition that is assigned and read from, a lock that a second user
- * wants too, an unlock. */
+ * wants too, an unlock, and a login by a name that is padded otherwise. */
 #include "hinet.h"
 
 #include <stdio.h>
@@ -19,11 +19,20 @@ static const uint8_t site[] = {
     0x00, 0x08, 0, 0, 0, 0      /* first sector 2048 */
 };
 
+/* Two users: the names differ in their padding alone. */
+static const uint8_t twice[] = {
+    2, 0, 8, 0, 0, 0, 40, 0,
+    'B', 'E', 'T', 'T', 'Y', ' ', ' ', ' ', 'S', 'E', 'C', 'R', 'E', 'T', 0, 0,
+    'B', 'E', 'T', 'T', 'Y', 0, 0, 0, 'H', 'I', 'D', 'D', 'E', 'N', 0, 0
+};
+
 static const uint8_t betty[HINET_NAME_BYTES] = { 'B', 'E', 'T', 'T', 'Y', ' ', ' ', ' ' };
+static const uint8_t betty_dos[HINET_NAME_BYTES] = { 'B', 'E', 'T', 'T', 'Y', 0, 0, 0 };
 static const uint8_t secret[HINET_PASSWORD_BYTES] = { 'S', 'E', 'C', 'R', 'E', 'T' };
 static const uint8_t stock[HINET_NAME_BYTES] = { 'S', 'T', 'O', 'C', 'K', ' ', ' ', ' ' };
 static const uint8_t shelve[HINET_PASSWORD_BYTES] = { 'S', 'H', 'E', 'L', 'V', 'E' };
 static const uint8_t serial[HINET_SERIAL_BYTES] = { 0x12, 0x34, 0x56, 0x78 };
+static const uint8_t serial_dos[HINET_SERIAL_BYTES] = { 0x12, 0x34, 0x56, 0x79 };
 static const uint8_t string_a[HINET_LOCKSTRING_BYTES] = { 1, 'A' };
 
 /* Serves the frame that was just written. */
@@ -97,6 +106,7 @@ int main(void)
     wrong[40] = 7;
     show_site("site file", site, sizeof site);
     show_site("site file, size code 7", wrong, sizeof wrong);
+    show_site("site file, BETTY twice", twice, sizeof twice);
 
     show("fresh tables", hinet_fresh(locks, sizeof locks, stations, sizeof stations));
     uint64_t answer = serve(HINET_NUMBER_LOGIN,
@@ -114,5 +124,14 @@ int main(void)
          serve(HINET_NUMBER_LOCAL, hinet_write_lock(string_a, frame, sizeof frame)));
     show("unlock A by the station",
          serve(station, hinet_write_unlock(string_a, frame, sizeof frame)));
+
+    answer = serve(HINET_NUMBER_LOGIN,
+                   hinet_write_login(betty_dos, secret, serial_dos, 5, frame, sizeof frame));
+    station = hinet_answer_login_number(answer);
+    show("login, zeros for spaces", answer);
+    const uint8_t *name = hinet_record_name(stations, station);
+    printf("%-26s", "");
+    fwrite(name, 1, hinet_name_length(name), stdout);
+    printf(", %s\n", hinet_name_equal(name, betty) ? "the same user" : "another user");
     return 0;
 }
