@@ -14,8 +14,10 @@ enum keys {
     NUMBERED,       /* CUSTOMER00042: they differ late */
     EARLY,          /* 00042CUSTOMER: they differ early and end alike */
     LAST,           /* STOCKCARD042X: they share the last byte too */
+    PADDED,         /* names U7 and U42, padded with zeros and with spaces by turns */
     ANY,            /* random bytes, lock strings of random length */
     ONE_HASH,       /* random bytes, all with one hash */
+    ONE_HASH_PADDED, /* the same, and names of six bytes padded by turns */
     ONE_HASH_LAST   /* STOCKCARD...X, all with one hash */
 };
 
@@ -26,6 +28,7 @@ enum rows {
     ONE_VOLUME      /* 64 of size 4 that fill one volume, mixed */
 };
 
+/* A shape's place is its seed too: a new one goes to the end. */
 const struct shape shapes[SHAPES] = {
     { "numbered", IN_ORDER },
     { "numbered-mixed", IN_ORDER },
@@ -40,18 +43,22 @@ const struct shape shapes[SHAPES] = {
     { "text", ON_LINE },
     { "random", ON_LINE },
     { "FF", ON_LINE },
-    { "1F", ON_LINE }
+    { "1F", ON_LINE },
+    { "padded-mixed", IN_ORDER },
+    { "hash-padded-mixed", COLLIDING }
 };
 
-enum { KEY_SHAPES = 9 };
+/* The first shape on the line, and the first of those with keys that came after. */
+enum { FIRST_ON_LINE = 9, FIRST_PADDED = 14 };
 
 static const struct {
     enum keys keys;
     enum rows rows;
-} made[KEY_SHAPES] = {
+} made[SHAPES] = {
     { NUMBERED, SORTED }, { NUMBERED, MIXED }, { NUMBERED, ONE_VOLUME },
     { EARLY, MIXED }, { LAST, MIXED }, { LAST, ONE_VOLUME },
-    { ANY, MIXED }, { ONE_HASH, MIXED }, { ONE_HASH_LAST, ONE_VOLUME }
+    { ANY, MIXED }, { ONE_HASH, MIXED }, { ONE_HASH_LAST, ONE_VOLUME },
+    [FIRST_PADDED] = { PADDED, MIXED }, { ONE_HASH_PADDED, MIXED }
 };
 
 /* ---- keys ---- */
@@ -61,14 +68,16 @@ static uint32_t number_of(const uint8_t *bytes)
     return bytes[0] | (uint32_t)bytes[1] << 8 | (uint32_t)bytes[2] << 16 | (uint32_t)bytes[3] << 24;
 }
 
-/* The library's hash of a key of 8 or 13 bytes (crates/rows/specs/Marks.antt):
- * known here only to make keys that collide. */
+/* The library's hash of a key of 8 or 13 bytes (crates/rows/specs/Marks.antt); of
+ * a name only what is solid counts. Known here only to make keys that collide. */
 static unsigned hash(const uint8_t *key, unsigned len)
 {
     static const uint64_t weights[4] = { 811766591, 735356845, 227300033, 244215329 };
     uint8_t bytes[16] = { 0 };
     uint64_t sum = 0;
     memcpy(bytes, key, len);
+    for (unsigned k = 0; k < 8 && len == 8; k++)
+        bytes[k] &= 0xDF;
     for (unsigned k = 0; k < 4; k++)
         sum += weights[k] * number_of(bytes + 4 * k);
     return (unsigned)(sum >> 22 & 1023);
@@ -92,15 +101,39 @@ static void draw_hash(struct rng *rng, uint8_t *key, unsigned len, unsigned from
     }
 }
 
+/* Of a name that has zeros for its padding, every second one has spaces. */
+static void pad_by_turns(uint8_t *name, unsigned i)
+{
+    for (unsigned k = 8; k > 0 && i % 2 == 1 && name[k - 1] == 0; k--)
+        name[k - 1] = ' ';
+}
+
+/* Name i of a shape whose names are padded. */
+static void make_padded(struct rng *rng, enum keys keys, uint8_t *name, unsigned i)
+{
+    memset(name, 0, 8);
+    if (keys == PADDED)
+        snprintf((char *)name, 8, "U%u", i);
+    else
+        draw_hash(rng, name, 8, 0, 6);
+    pad_by_turns(name, i);
+}
+
 /* Key i, of 8 or 13 bytes. */
 static void make_key(struct rng *rng, enum keys keys, uint8_t *key, unsigned len, unsigned i)
 {
     int name = len == 8;
+    if (name && (keys == PADDED || keys == ONE_HASH_PADDED)) {
+        make_padded(rng, keys, key, i);
+        return;
+    }
     switch (keys) {
+    case PADDED:
     case NUMBERED: in_words(key, len, name ? "USER%04u" : "CUSTOMER%05u", i); break;
     case EARLY:    in_words(key, len, name ? "%04uUSER" : "%05uCUSTOMER", i); break;
     case LAST:     in_words(key, len, name ? "USR%04uX" : "STOCKCARD%03uX", i); break;
     case ANY:      rng_bytes(rng, key, len); break;
+    case ONE_HASH_PADDED:
     case ONE_HASH: draw_hash(rng, key, len, 0, len); break;
     default:
         in_words(key, len, name ? "USR%04uX" : "STOCKCARD%03uX", 0);
@@ -190,6 +223,7 @@ static void make_serial(struct rng *rng, enum keys keys, uint8_t *serial, unsign
 {
     memcpy(serial, "SERI", 4);
     switch (keys) {
+    case PADDED:
     case NUMBERED: serial[3] = (uint8_t)(i + 1); break;
     case EARLY:    serial[0] = (uint8_t)(i + 1); break;
     case LAST:     serial[2] = (uint8_t)(i + 1); break;
@@ -275,8 +309,8 @@ void shape_inputs(unsigned i, struct inputs *inputs)
 {
     struct rng rng = rng_from(1982 + i);
     if (shapes[i].goal == ON_LINE) {
-        make_line(&rng, (enum fill)(i - KEY_SHAPES), &inputs->short_line, 20);
-        make_line(&rng, (enum fill)(i - KEY_SHAPES), &inputs->long_line, DATA_MOST);
+        make_line(&rng, (enum fill)(i - FIRST_ON_LINE), &inputs->short_line, 20);
+        make_line(&rng, (enum fill)(i - FIRST_ON_LINE), &inputs->long_line, DATA_MOST);
         return;
     }
     make_site(&rng, &inputs->site, made[i].keys, made[i].rows);

@@ -44,7 +44,7 @@ struct inputs {
     struct on_line long_line;   /* 1,024 */
 };
 
-enum { SHAPES = 14 };
+enum { SHAPES = 16 };
 extern const struct shape shapes[SHAPES];
 
 /* Makes the inputs of shape number i. */
