@@ -357,6 +357,7 @@ int main(int argc, char **argv)
     struct rounds rounds = rounds_from(argc, argv, ROUNDS);
     trace.driver = "drive_names";
     trace.seed = SEED;
+    rng = rng_from(SEED);
     by_hand();
     for (trace.round = rounds.first; trace.round < rounds.end; trace.round++) {
         trace.step = 0;
