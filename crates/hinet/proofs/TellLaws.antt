@@ -1,18 +1,15 @@
 -- Everything that the master tells fits its word.
-use Prim.Native.Nat.{ℕ, zero, suc, _+_, _*_, _<_, _^_}
+use Prim.Native.Nat.{ℕ, _+_, _*_, _<_, _^_}
 use native.Mathlib.Omega.{arith}
-use native.Mathlib.Nat.{pow-suc}
 use mathlib.Core.Path.{_≡_}
 use mathlib.Core.Bool.{Bool, true, false, cond, not, _&&_, _||_}
-use mathlib.Core.List.{List, [], _∷_}
+use mathlib.Core.List.{List}
 use lib.Dec.{eqb, ltb}
-use lib.ListN.{take, drop, getD}
-use lib.Seq.{getD-drop}
+use lib.ListN.{getD}
 use borrow.Author.Tests.{ltb-true, ne-eqb}
 use Rattle.rows.proofs.BoolLaws.{by-test, by-eq, and-left, either}
-use Rattle.rows.proofs.NumberLaws.{Bytes}
+use Rattle.rows.proofs.NumberLaws.{Bytes, part-small}
 use Rattle.rows.specs.Words.{any, same, zeros}
-use Rattle.rows.specs.Rows.{part}
 use Rattle.rows.specs.Numbers.{lowFirst}
 use Rattle.terms.specs.declared.Address.{Address}
 use Rattle.terms.specs.declared.LockString.{LockString}
@@ -54,19 +51,6 @@ unless-fits : (k : ℕ) (a : Told) (t w : List ℕ) (done : Effect (List ℕ)) �
 unless-fits k a t w done refused fits = by-eq k 0
     (λ z. rw z (fits z))
     (λ ne. rw (ne-eqb k 0 ne) (refused ne))
-
--- the number in n bytes
-low-small : (n : ℕ) (l : List ℕ) → Bytes l → lowFirst (take n l) < 256 ^ n
-unfolding lowFirst
-low-small zero l b = omega arith
-low-small (suc n) [] b = omega (arith, pow-suc 256 n, low-small n [] b)
-low-small (suc n) (x ∷ l) b =
-    let small : x < 256 = b 0 in
-    omega (arith, pow-suc 256 n, low-small n l (λ i. b (suc i)))
-
-part-small : (f : List ℕ) (at n : ℕ) → Bytes f → lowFirst (part f at n) < 256 ^ n
-unfolding part
-part-small f at n b = low-small n (drop at f) (λ i. rw getD-drop (b (at + i)))
 
 -- a place, in a good site file and in any
 place-on-fits : (r : PartitionRow) (a : Address) → ranged r ≡ true → Tellable (placeTold (placedOn r a))

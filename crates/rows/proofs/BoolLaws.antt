@@ -1,9 +1,9 @@
 -- A test and what it tells.
 use Prim.Native.Nat.{ℕ, _<_}
 use mathlib.Core.Path.{_≡_, refl, sym, _∙_}
-use mathlib.Core.Bool.{Bool, true, false, cond, _&&_, _||_, true≢false}
+use mathlib.Core.Bool.{Bool, true, false, cond, not, _&&_, _||_, true≢false}
 use lib.Dec.{eqb}
-use borrow.Author.Tests.{eqb-true, eqb-false, eq-eqb}
+use borrow.Author.Tests.{eqb-true, eqb-false, eq-eqb, not-true, not-false}
 
 -- by cases on a test, with its equation
 pub by-test {ℓ} : {P : Type ℓ} (b : Bool) → (b ≡ true → P) → (b ≡ false → P) → P
@@ -17,6 +17,13 @@ by-eq i j y n = by-test (eqb i j) (λ t. y (eqb-true i j t)) (λ f. n (eqb-false
 -- a test cannot both hold and fail
 pub both {ℓ} : {P : Type ℓ} {b : Bool} → b ≡ true → b ≡ false → P
 both t f = absurd (true≢false (sym t ∙ f))
+
+-- what code's test of an answer tells of what the answer is
+pub passed : {r b : Bool} → r ≡ b → not r ≡ false → b ≡ true
+passed {r} e h = sym e ∙ not-false r h
+
+pub refused : {r b : Bool} → r ≡ b → not r ≡ true → b ≡ false
+refused {r} e h = sym e ∙ not-true r h
 
 -- the parts of a conjunction
 pub and-left : (a b : Bool) → (a && b) ≡ true → a ≡ true

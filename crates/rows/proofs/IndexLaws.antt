@@ -102,6 +102,12 @@ module _ (p q : ℕ → Bool) where
   any-same zero h = refl
   any-same (suc n) h = rw (any-same n (λ i l. h i (omega arith)), h n (omega arith))
 
+  pub first-same : (n : ℕ) → ((i : ℕ) → i < n → q i ≡ p i) → first q n ≡ first p n
+  unfolding first
+  first-same zero h = refl
+  first-same (suc n) h =
+      rw (any-same n (λ i l. h i (omega arith)), first-same n (λ i l. h i (omega arith)), h n (omega arith))
+
   -- where the one is the other and a further test b that is the same at each index
   pub any-and : (n : ℕ) (b : Bool) → ((i : ℕ) → i < n → q i ≡ (p i && b)) → any q n ≡ (any p n && b)
   unfolding any

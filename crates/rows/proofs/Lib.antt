@@ -1,5 +1,6 @@
 pub mod BoolLaws
 pub mod IndexLaws
+pub mod SmallestLaws
 pub mod BuildLaws
 pub mod RowLaws
 pub mod NumberLaws

@@ -5,9 +5,9 @@ use native.Mathlib.Nat.{pow-suc, pow-succ', mul-assoc, add-zero, one-mul, div-lt
 use mathlib.Core.Path.{_≡_, refl, sym, ap, _∙_, subst}
 use mathlib.Core.Bool.{true, false}
 use mathlib.Core.List.{List, [], _∷_, _++_}
-use lib.Dec.{ltb, lit<}
-use lib.ListN.{length, drop, getD, length-take, length-drop, List·getD-eq-default}
-use lib.Seq.{take-add, drop-drop, length-take-le, ext-getD}
+use lib.Dec.{eqb, ltb, lit<}
+use lib.ListN.{length, take, drop, getD, length-take, length-drop, List·getD-eq-default}
+use lib.Seq.{take-add, drop-drop, getD-drop, length-take-le, ext-getD}
 use lib.Pow.{pow-pos}
 use borrow.Author.Tests.{ltb-true, ltb-false, eqb-true, eq-eqb, ne-eqb}
 use Rattle.rows.proofs.BoolLaws.{by-test, contra}
@@ -56,6 +56,19 @@ bytes-part l at n b i = by-test (ltb i n)
 pub part-back : (l : List ℕ) (at n : ℕ) → Bytes l → at + n ≤ length l → lowBytes n (lowFirst (part l at n)) ≡ part l at n
 part-back l at n b h =
     ap (λ (k : ℕ). lowBytes k (lowFirst (part l at n))) (sym (length-part l at n h)) ∙ bytes-back (part l at n) (bytes-part l at n b)
+
+-- the number in n bytes
+low-small : (n : ℕ) (l : List ℕ) → Bytes l → lowFirst (take n l) < 256 ^ n
+unfolding lowFirst
+low-small zero l b = omega arith
+low-small (suc n) [] b = omega (arith, pow-suc 256 n, low-small n [] b)
+low-small (suc n) (x ∷ l) b =
+    let small : x < 256 = b 0 in
+    omega (arith, pow-suc 256 n, low-small n l (λ i. b (suc i)))
+
+pub part-small : (f : List ℕ) (at n : ℕ) → Bytes f → lowFirst (part f at n) < 256 ^ n
+unfolding part
+part-small f at n b = low-small n (drop at f) (λ i. rw getD-drop (b (at + i)))
 
 -- bytes hold the number 0 just where they are zeros
 low-zero : (l : List ℕ) → lowFirst l ≡ 0 → (k : ℕ) → getD l k 0 ≡ 0
@@ -143,3 +156,46 @@ bit-past x n l =
 
 pub halved : (x n : ℕ) → x / 2 ^ suc n ≡ x / 2 ^ n / 2
 halved x n = ap (λ (k : ℕ). x / k) (pow-suc 2 n) ∙ sym (div-div-eq-div-mul x (2 ^ n) 2)
+
+-- its bits: those below the m-th are of what is added to a multiple of 2 ^ m, the others of the multiplied
+bit-half : (x n : ℕ) → bitAt x (suc n) ≡ bitAt (x / 2) n
+unfolding bitAt
+bit-half x n = ap (λ (y : ℕ). eqb (y % 2) 1) (ap (λ (k : ℕ). x / k) (pow-succ' 2 n) ∙ sym (div-div-eq-div-mul x 2 (2 ^ n)))
+
+bit-low : (m n b x : ℕ) → n < m → bitAt (b + 2 ^ m * x) n ≡ bitAt b n
+unfolding bitAt
+bit-low zero n b x l = absurd (omega arith)
+bit-low (suc m) zero b x l =
+    let even : 2 ^ suc m * x ≡ 2 * (2 ^ m * x) = rw pow-succ' (mul-assoc 2 (2 ^ m) x) in
+    let parity : (b + 2 ^ suc m * x) / 2 ^ 0 % 2 ≡ b / 2 ^ 0 % 2 = omega (arith, even) in
+    ap (λ (y : ℕ). eqb y 1) parity
+bit-low (suc m) (suc n) b x l =
+    let even : 2 ^ suc m * x ≡ 2 * (2 ^ m * x) = rw pow-succ' (mul-assoc 2 (2 ^ m) x) in
+    let half : (b + 2 ^ suc m * x) / 2 ≡ b / 2 + 2 ^ m * x = omega (arith, even) in
+    bit-half (b + 2 ^ suc m * x) n ∙ rw half (bit-low m n (b / 2) x (omega arith)) ∙ sym (bit-half b n)
+
+bit-high : (m n b x : ℕ) → b < 2 ^ m → bitAt (b + 2 ^ m * x) (m + n) ≡ bitAt x n
+bit-high zero n b x l =
+    let all : b + 2 ^ 0 * x ≡ x = omega arith in
+    let here : 0 + n ≡ n = omega arith in
+    rw (all, here)
+bit-high (suc m) n b x l =
+    let even : 2 ^ suc m * x ≡ 2 * (2 ^ m * x) = rw pow-succ' (mul-assoc 2 (2 ^ m) x) in
+    let half : (b + 2 ^ suc m * x) / 2 ≡ b / 2 + 2 ^ m * x = omega (arith, even) in
+    let next : suc m + n ≡ suc (m + n) = omega arith in
+    ap (bitAt (b + 2 ^ suc m * x)) next ∙ bit-half (b + 2 ^ suc m * x) (m + n) ∙ rw half (bit-high m n (b / 2) x (omega (arith, pow-succ' 2 m)))
+
+-- bit n of the number in bytes is bit n % 8 of byte n / 8
+pub bit-in-byte : (l : List ℕ) → Bytes l → (n : ℕ) → bitAt (lowFirst l) n ≡ bitAt (getD l (n / 8) 0) (n % 8)
+unfolding lowFirst
+bit-in-byte [] small n = bit-past 0 n (pow-pos n) ∙ sym (bit-past 0 (n % 8) (pow-pos (n % 8)))
+bit-in-byte (b ∷ l) small n = by-test (ltb n 8)
+    (λ y. let low = ltb-true n 8 y in
+    let first : n / 8 ≡ 0 = omega arith in
+    let same-bit : n % 8 ≡ n = omega arith in
+    rw (first, same-bit) (bit-low 8 n b (lowFirst l) low))
+    (λ f. let high = ltb-false n 8 f in
+    let on : n ≡ 8 + (n - 8) = omega arith in
+    let next : n / 8 ≡ suc ((n - 8) / 8) = omega arith in
+    let same-bit : n % 8 ≡ (n - 8) % 8 = omega arith in
+    ap (bitAt (b + 256 * lowFirst l)) on ∙ bit-high 8 (n - 8) b (lowFirst l) (small 0) ∙ bit-in-byte l (λ i. small (suc i)) (n - 8) ∙ rw (next, same-bit))

@@ -11,7 +11,7 @@ use lib.Seq.{ext-getD, set-split, take-suc, getD-take, getD-drop, getD-append-ad
 use borrow.Author.Tests.{ltb-true, ltb-false}
 use lib.Dec.{ltb}
 use Rattle.rows.proofs.BoolLaws.{by-test}
-use Rattle.rows.specs.Rows.{part, put, over, copies, row, setRow, eachRow}
+use Rattle.rows.specs.Rows.{part, put, over, copies, join, row, setRow, eachRow}
 
 pub getD-right : (xs ys : List ℕ) (k : ℕ) → length xs ≤ k → getD (xs ++ ys) k 0 ≡ getD ys (k - length xs) 0
 getD-right xs ys k h =
@@ -23,6 +23,10 @@ module _ (l : List ℕ) (at n : ℕ) where
   pub length-part : at + n ≤ length l → length (part l at n) ≡ n
   unfolding part
   length-part h = simp (length-take, length-drop) (omega arith)
+
+  pub part-most : length (part l at n) ≤ n
+  unfolding part
+  part-most = simp length-take (omega arith)
 
   pub getD-part : (k : ℕ) → k < n → getD (part l at n) k 0 ≡ getD l (at + k) 0
   unfolding part
@@ -191,19 +195,54 @@ over-next l p q at h fits =
 pub length-over : (l p : List ℕ) → length p ≤ length l → length (over p l) ≡ length l
 length-over l p h = simp (length-append, length-drop) (omega arith)
 
--- r put down n times
-pub length-copies : (n : ℕ) (r : List ℕ) → length (copies n r) ≡ length r * n
-unfolding copies
-length-copies zero r = omega arith
-length-copies (suc n) r = simp (length-append, length-copies n r, mul-suc)
-
-pub copies-none : (l r : List ℕ) → l ≡ over (copies 0 r) l
-unfolding copies
-copies-none l r = refl
+pub over-set : (l p : List ℕ) (at x : ℕ) → length p ≡ at → at < length l → set (over p l) at x ≡ over (p ++ (x ∷ [])) l
+over-set l p at x h fits =
+    set-put (over p l) at x (omega (arith, length-over l p (omega arith))) ∙ over-next l p (x ∷ []) at h (omega arith)
 
 -- row i ends at or before row n
 pub row-end : (w : ℕ) {i n : ℕ} → i < n → w * i + w ≤ w * n
 row-end w {i} {n} l = subst (λ (k : ℕ). k ≤ w * n) (mul-suc w i) (mul-le-mul-left w l)
+
+-- lists of w bytes each, one after the other
+module _ (w : ℕ) (f : ℕ → List ℕ) where
+  pub length-join : (n : ℕ) → ((k : ℕ) → k < n → length (f k) ≡ w) → length (join f n) ≡ w * n
+  unfolding join
+  length-join zero full = omega arith
+  length-join (suc n) full = rw (length-append, length-join n (λ k l. full k (omega arith)), full n (omega arith), mul-suc)
+
+  pub row-join : (n i : ℕ) → i < n → ((k : ℕ) → k < n → length (f k) ≡ w) → row w (join f n) i ≡ f i
+  unfolding join part
+  row-join zero i l full = absurd (not-suc-le-zero l)
+  row-join (suc n) i l full =
+      let long = length-join n (λ k b. full k (omega arith)) in
+      ⊎-elim
+      (λ (e : i ≡ n). rw (e, drop-at (join f n) (f n) (w * n) long) (take-all w (f n) (omega (arith, full n (omega arith)))))
+      (λ lt. part-append (join f n) (f n) (w * i) w (omega (arith, long, row-end w lt)) ∙ row-join n i lt (λ k b. full k (omega arith)))
+      (eq-or-lt-of-le (le-of-suc-le-suc l))
+
+  -- a loop that puts them down from `at` on: its begin and a turn
+  pub join-none : (l : List ℕ) (at : ℕ) → l ≡ put l at (join f 0)
+  unfolding join put
+  join-none l at = sym (take-append-drop at l)
+
+  pub join-more : (l : List ℕ) (at k : ℕ) → ((j : ℕ) → j < k + 1 → length (f j) ≡ w) → at + w * k + w ≤ length l → put (put l at (join f k)) (at + w * k) (f k) ≡ put l at (join f (k + 1))
+  unfolding join
+  join-more l at k full fits =
+      let long = length-join k (λ j b. full j (omega arith)) in
+      put-next l (join f k) (f k) at (at + w * k) (omega (arith, long)) (omega (arith, full k (omega arith))) ∙ rw add-one
+
+-- r put down n times
+copies-join : (n : ℕ) (r : List ℕ) → copies n r ≡ join (λ _. r) n
+unfolding copies join
+copies-join zero r = refl
+copies-join (suc n) r = rw (copies-join n r)
+
+pub length-copies : (n : ℕ) (r : List ℕ) → length (copies n r) ≡ length r * n
+length-copies n r = ap length (copies-join n r) ∙ length-join (length r) (λ _. r) n (λ k l. refl)
+
+pub copies-none : (l r : List ℕ) → l ≡ over (copies 0 r) l
+unfolding copies
+copies-none l r = refl
 
 -- r put down once more
 pub copies-more : (l r : List ℕ) (i n : ℕ) → i < n → length r * n ≤ length l → put (over (copies i r) l) (length r * i) r ≡ over (copies (i + 1) r) l
@@ -275,12 +314,7 @@ module _ (w : ℕ) (f : List ℕ → List ℕ) (keeps : (r : List ℕ) → lengt
 
 -- each of n copies of r is r
 pub row-copies : (w : ℕ) (r : List ℕ) → length r ≡ w → (n i : ℕ) → i < n → row w (copies n r) i ≡ r
-unfolding copies part
-row-copies w r full zero i l = absurd (not-suc-le-zero l)
-row-copies w r full (suc n) i l = ⊎-elim
-    (λ (e : i ≡ n). rw (e, drop-at (copies n r) r (w * n) (length-copies n r ∙ rw full)) (take-all w r (omega arith)))
-    (λ lt. part-append (copies n r) r (w * i) w (omega (arith, length-copies n r, ap (λ (k : ℕ). k * n) full, row-end w lt)) ∙ row-copies w r full n i lt)
-    (eq-or-lt-of-le (le-of-suc-le-suc l))
+row-copies w r full n i l = ap (λ (t : List ℕ). row w t i) (copies-join n r) ∙ row-join w (λ _. r) n i l (λ k b. full)
 
 -- copies from the front, and a row of them
 pub copies-front : (n : ℕ) (r : List ℕ) → copies (suc n) r ≡ r ++ copies n r

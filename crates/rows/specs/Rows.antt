@@ -1,7 +1,9 @@
 -- Lent bytes: a part of them, a part put down, and the same for rows of w bytes each.
 use Prim.Native.Nat.{ℕ, zero, suc, _*_}
+use mathlib.Core.Bool.{Bool}
 use mathlib.Core.List.{List, [], _++_}
 use lib.ListN.{length, take, drop}
+use Rattle.rows.specs.Words.{same}
 
 -- the n bytes of l that begin at `at`
 unfoldable pub part : List ℕ → ℕ → ℕ → List ℕ
@@ -19,6 +21,10 @@ over p l = p ++ drop (length p) l
 abbrev pub row : ℕ → List ℕ → ℕ → List ℕ
 row w t i = part t (w * i) w
 
+-- row i of t begins with these bytes
+unfoldable pub begins : ℕ → List ℕ → List ℕ → ℕ → Bool
+begins w t bytes i = same (part t (w * i) (length bytes)) bytes
+
 -- t with r as its row i
 abbrev pub setRow : ℕ → List ℕ → ℕ → List ℕ → List ℕ
 setRow w t i r = put t (w * i) r
@@ -27,6 +33,11 @@ setRow w t i r = put t (w * i) r
 unfoldable pub copies : ℕ → List ℕ → List ℕ
 copies zero r = []
 copies (suc n) r = copies n r ++ r
+
+-- f 0, f 1, .., f (n - 1), one after the other
+unfoldable pub join : (ℕ → List ℕ) → ℕ → List ℕ
+join f zero = []
+join f (suc n) = join f n ++ f n
 
 -- t with f done to each of its first n rows
 unfoldable pub eachRow : ℕ → (List ℕ → List ℕ) → ℕ → List ℕ → List ℕ

@@ -2,7 +2,7 @@
 use Prim.Native.Nat.{ℕ, zero, suc}
 use mathlib.Core.Bool.{Bool, true, false, cond, not, _&&_, _||_}
 use mathlib.Core.List.{List, [], _∷_, _++_}
-use lib.Dec.{eqb}
+use lib.Dec.{eqb, leb}
 use lib.ListN.{length, getD}
 
 -- p holds at every index below n
@@ -23,6 +23,14 @@ first p (suc n) = cond (any p n) (first p n) (cond (p n) n (suc n))
 -- p fails at i
 unfoldable pub fails : (ℕ → Bool) → ℕ → Bool
 fails p i = not (p i)
+
+-- p holds at i, and at no index below n at which p holds the measure m is smaller than at i
+unfoldable pub noneSmaller : (ℕ → Bool) → (ℕ → ℕ) → ℕ → ℕ → Bool
+noneSmaller p m n i = p i && all (λ j. not (p j) || leb (m i) (m j)) n
+
+-- the least index of these: where m is smallest among the indices below n at which p holds, the lower one on a tie; n where there is none
+unfoldable pub smallest : (ℕ → Bool) → (ℕ → ℕ) → ℕ → ℕ
+smallest p m n = first (noneSmaller p m n) n
 
 -- the list of f 0, f 1, .., f (n - 1)
 unfoldable pub build : {A : Type 0} → (ℕ → A) → ℕ → List A

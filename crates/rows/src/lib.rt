@@ -5,8 +5,8 @@ pub mod marks;
 ghost use mathlib.Core.Path.{_≡_};
 ghost use Prim.Native.Nat.{_+_, _*_, _≤_, _<_};
 ghost use lib.ListN.{length};
-ghost use Rattle.rows.specs.Words.{all, same, zeroAt, zeros};
-ghost use Rattle.rows.specs.Rows.{part as partOf, put as putIn, over, copies};
+ghost use Rattle.rows.specs.Words.{all, first, same, zeroAt, zeros};
+ghost use Rattle.rows.specs.Rows.{part as partOf, put as putIn, over, begins, copies};
 ghost use Rattle.rows.specs.Numbers.{lowFirst, bitAt};
 ghost use Rattle.rows.specs.Outcomes.{Gives};
 
@@ -180,6 +180,21 @@ pub fn is_same(a: &[u8], b: &[u8]) -> bool
         return bytes_same(a, b);
     }
     ends_same(a, b)
+}
+
+// The first of n rows of w bytes that begins with these bytes, or n.
+pub fn find(table: &[u8], w: usize, n: usize, bytes: &[u8]) -> usize
+    requires { ⌜ (w * n ≤ length (now table)) × (length (now bytes) ≤ w) ⌝ }
+    ensures { λ r. ⌜ r ≡ first (begins w (now (table .entry)) (now (bytes .entry))) n ⌝ }
+{
+    let mut i: usize = 0;
+    while i < n {
+        if is_same(part(table, w * i, bytes.len()), bytes) {
+            return i;
+        }
+        i += 1;
+    }
+    n
 }
 
 // Bit n of a word is set; it has none past the sixty-fourth.
