@@ -7,3 +7,4 @@ pub mod EntryLaws
 pub mod StationLaws
 pub mod ParameterLaws
 pub mod LineLaws
+pub mod BootLaws

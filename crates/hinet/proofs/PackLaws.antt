@@ -9,8 +9,8 @@ use mir.Val.{boolByte}
 use Rattle.rows.proofs.BoolLaws.{by-test}
 use Rattle.who.specs.Records.{flag}
 use Rattle.master.proofs.Outcomes.{refused-no-answer}
-use Rattle.master.specs.Answers.{Told, refuses, refuses-site, answers, refusalNumber, Answered, no-bytes, status-byte, assign-bytes, place-at, login-as, turn-was, frame-of, request-of, bits-of, line-of, answersUnless}
-use Rattle.hinet.specs.Packing.{STATUS, ASSIGN, PLACE, LOGIN, TURN, WRITTEN, FAULT, BITS, LINE, REQUEST, word, refusalIn, kindIn, bytesIn, toldIn, answeredIn, flagIn}
+use Rattle.master.specs.Answers.{Told, refuses, refuses-site, answers, refusalNumber, Answered, no-bytes, status-byte, assign-bytes, place-at, login-as, turn-was, frame-of, request-of, bits-of, line-of, honor-flag, answersUnless}
+use Rattle.hinet.specs.Packing.{STATUS, ASSIGN, PLACE, LOGIN, TURN, WRITTEN, FAULT, BITS, LINE, BOOT, REQUEST, word, refusalIn, kindIn, bytesIn, toldIn, answeredIn, flagIn}
 
 -- a flag as a byte
 pub flag-byte : (b : Bool) → boolByte b ≡ flag b
@@ -37,6 +37,7 @@ Tellable (answers (frame-of length)) = length < 256
 Tellable (answers (request-of code)) = code < 256
 Tellable (answers (bits-of n)) = n < 2 ^ 32
 Tellable (answers (line-of user n)) = (user < 256) × (n < 2 ^ 16)
+Tellable (answers (honor-flag n)) = n < 256
 
 -- what a word tells whose refusal is known, and the answer in one whose kind is known
 refusal-is : (x : ℕ) → (refusalIn x ≡ 0 → ⊥) → kindIn x ≡ 0 → toldIn x ≡ refuses (refusalIn x)
@@ -97,6 +98,10 @@ line-is : (x a b : ℕ) → kindIn x ≡ LINE → bytesIn x 0 1 ≡ a → bytesI
 unfolding answeredIn
 line-is x a b k e f = rw (k, e, f)
 
+boot-is : (x a : ℕ) → kindIn x ≡ BOOT → bytesIn x 0 1 ≡ a → answeredIn x ≡ honor-flag a
+unfolding answeredIn
+boot-is x a k e = rw (k, e)
+
 -- taking the word apart gives what was told
 pub refusal-back : (k : ℕ) → (1 ≤ k) × (k < 256) → toldIn k ≡ refuses k
 unfolding refusalIn kindIn
@@ -123,6 +128,7 @@ word-back (answers (frame-of a)) h = answer-is _ (omega arith) _ (written-is _ a
 word-back (answers (request-of a)) h = answer-is _ (omega arith) _ (request-is _ a (omega arith) (omega arith))
 word-back (answers (bits-of a)) h = answer-is _ (omega arith) _ (bits-is _ a (omega arith) (omega arith))
 word-back (answers (line-of a b)) h = answer-is _ (omega arith) _ (line-is _ a b (omega arith) (omega arith) (omega arith))
+word-back (answers (honor-flag a)) h = answer-is _ (omega arith) _ (boot-is _ a (omega arith) (omega arith))
 
 -- two answers never have one word
 pub one-word : (a b : Told) → Tellable a → Tellable b → word a ≡ word b → a ≡ b

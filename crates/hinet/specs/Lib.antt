@@ -4,3 +4,4 @@ pub mod FrameEntries
 pub mod StationEntries
 pub mod ParameterEntries
 pub mod LineEntries
+pub mod BootEntries

@@ -4,7 +4,7 @@ use Prim.Native.Nat.{ℕ, _+_, _*_, _/_, _%_, _^_}
 use mathlib.Core.Bool.{Bool, cond, _&&_}
 use lib.Dec.{eqb}
 use Rattle.who.specs.Records.{flag}
-use Rattle.master.specs.Answers.{Told, refuses, refuses-site, answers, Answered, no-bytes, status-byte, assign-bytes, place-at, login-as, turn-was, frame-of, request-of, bits-of, line-of}
+use Rattle.master.specs.Answers.{Told, refuses, refuses-site, answers, Answered, no-bytes, status-byte, assign-bytes, place-at, login-as, turn-was, frame-of, request-of, bits-of, line-of, honor-flag}
 
 -- the kinds of answer; an entry with nothing more to tell returns 0
 abbrev pub STATUS : ℕ
@@ -34,6 +34,9 @@ BITS = 8
 abbrev pub LINE : ℕ
 LINE = 9
 
+abbrev pub BOOT : ℕ
+BOOT = 10
+
 abbrev pub REQUEST : ℕ
 REQUEST = 13
 
@@ -52,6 +55,7 @@ word (answers (frame-of length)) = WRITTEN * 2 ^ 8 + length * 2 ^ 16
 word (answers (request-of code)) = REQUEST * 2 ^ 8 + code * 2 ^ 16
 word (answers (bits-of n)) = BITS * 2 ^ 8 + n * 2 ^ 16
 word (answers (line-of user n)) = LINE * 2 ^ 8 + user * 2 ^ 16 + n * 2 ^ 24
+word (answers (honor-flag n)) = BOOT * 2 ^ 8 + n * 2 ^ 16
 
 -- how the C program takes a word apart: the refusal, the kind, and n bytes of the answer from byte i on
 unfoldable pub refusalIn : ℕ → ℕ
@@ -78,7 +82,8 @@ answeredIn x =
     (cond (eqb (kindIn x) REQUEST) (request-of (bytesIn x 0 1))
     (cond (eqb (kindIn x) BITS) (bits-of (bytesIn x 0 4))
     (cond (eqb (kindIn x) LINE) (line-of (bytesIn x 0 1) (bytesIn x 1 2))
-    no-bytes))))))))
+    (cond (eqb (kindIn x) BOOT) (honor-flag (bytesIn x 0 1))
+    no-bytes)))))))))
 
 -- what a word tells: an answer where nothing is refused; a fault, which is refusal 10 with that kind; or the refusal alone
 unfoldable pub toldIn : ℕ → Told

@@ -1,4 +1,5 @@
 // An answer as one word (specs/Packing.antt).
+use boot::Booted;
 use framing::Reading;
 use framing::Written;
 use master::Answer;
@@ -19,6 +20,7 @@ ghost use Rattle.hinet.specs.Entries.{checkedTold, locatedTold};
 ghost use Rattle.hinet.specs.FrameEntries.{frameTold};
 ghost use Rattle.hinet.specs.StationEntries.{stepTold};
 ghost use Rattle.hinet.specs.LineEntries.{writtenTold, readingTold};
+ghost use Rattle.hinet.specs.BootEntries.{bootedTold};
 
 // The kinds of answer, in bits 8 to 15.
 const STATUS: u64 = 0x100;
@@ -38,6 +40,8 @@ const FAULT: u64 = 0x700;
 const BITS: u64 = 0x800;
 
 const LINE: u64 = 0x900;
+
+const BOOT: u64 = 0xA00;
 
 const REQUEST: u64 = 0xD00;
 
@@ -211,5 +215,15 @@ pub fn pack_received(a: Received) -> u64
     match a {
         Received::Another { user, length } => pack_line(user, length),
         Received::Answered(answer) => pack(answer),
+    }
+}
+
+// A login's system: its refusal, or the honor flag.
+pub fn pack_booted(a: Booted) -> u64
+    ensures { λ r. ⌜ r ≡ word (bootedTold a) ⌝ }
+{
+    match a {
+        Booted::Refused(k) => k as u64,
+        Booted::Honors(flag) => BOOT + flag as u64 * BYTE_0,
     }
 }

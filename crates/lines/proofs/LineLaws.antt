@@ -2,7 +2,7 @@
 use Prim.Native.Nat.{ℕ, _≤_}
 use native.Mathlib.Omega.{arith}
 use lib.ListN.{length, length-append}
-use Rattle.master.specs.Answers.{Told, refuses, refuses-site, answers, refusalNumber, no-bytes, status-byte, assign-bytes, place-at, login-as, turn-was, frame-of, request-of, bits-of, line-of}
+use Rattle.master.specs.Answers.{Told, refuses, refuses-site, answers, refusalNumber, no-bytes, status-byte, assign-bytes, place-at, login-as, turn-was, frame-of, request-of, bits-of, line-of, honor-flag}
 use Rattle.lines.proofs.DigitLaws.{decimal-long}
 use Rattle.lines.specs.Line.{decimal, hexByte, answerText, column, columns, lineText}
 
@@ -20,6 +20,7 @@ answer-long (answers (frame-of l)) = omega arith
 answer-long (answers (request-of code)) = omega arith
 answer-long (answers (bits-of n)) = omega arith
 answer-long (answers (line-of user n)) = omega arith
+answer-long (answers (honor-flag n)) = omega arith
 
 -- a column of decimal digits, and one of a byte
 pub number-long : (n : ℕ) → length (column (decimal n)) ≤ 21

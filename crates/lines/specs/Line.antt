@@ -6,7 +6,7 @@ use lib.Dec.{ltb}
 use lib.ListN.{length}
 use Rattle.rows.specs.Rows.{put}
 use Rattle.rows.specs.Outcomes.{Leaves}
-use Rattle.master.specs.Answers.{Told, refuses, refuses-site, answers, refusalNumber, no-bytes, status-byte, assign-bytes, place-at, login-as, turn-was, frame-of, request-of, bits-of, line-of}
+use Rattle.master.specs.Answers.{Told, refuses, refuses-site, answers, refusalNumber, no-bytes, status-byte, assign-bytes, place-at, login-as, turn-was, frame-of, request-of, bits-of, line-of, honor-flag}
 
 -- the characters, by their ASCII codes
 abbrev pub NEWLINE : ℕ
@@ -61,6 +61,7 @@ answerText (answers (frame-of length)) = DASH ∷ []
 answerText (answers (request-of code)) = DASH ∷ []
 answerText (answers (bits-of n)) = DASH ∷ []
 answerText (answers (line-of user n)) = DASH ∷ []
+answerText (answers (honor-flag n)) = DASH ∷ []
 
 -- the columns before the answer, each with a space behind it
 unfoldable pub column : List ℕ → List ℕ

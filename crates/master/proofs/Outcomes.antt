@@ -8,7 +8,7 @@ use Rattle.rows.proofs.BoolLaws.{by-eq}
 use Rattle.master.specs.declared.Answer.{Answer}
 use Rattle.master.specs.declared.Answer.the-variants.{Refused, Faulty, Nothing, Status, Assigned, At, LoggedIn}
 use Rattle.site.proofs.FirstFault.{fault-of, fault-back}
-use Rattle.master.specs.Answers.{Told, refuses, refuses-site, answers, refusalNumber, faultTold, no-bytes, status-byte, assign-bytes, place-at, login-as, turn-was, frame-of, request-of, bits-of, line-of, told, Answered}
+use Rattle.master.specs.Answers.{Told, refuses, refuses-site, answers, refusalNumber, faultTold, no-bytes, status-byte, assign-bytes, place-at, login-as, turn-was, frame-of, request-of, bits-of, line-of, honor-flag, told, Answered}
 use Rattle.master.specs.Refusals.{refusal}
 use Rattle.master.specs.Frames.{refusalTold, Serves, frameEffect}
 use Rattle.master.specs.Effects.{Effect, Does}
@@ -36,6 +36,7 @@ known (answers (frame-of l)) = Nothing
 known (answers (request-of code)) = Nothing
 known (answers (bits-of n)) = Nothing
 known (answers (line-of user n)) = Nothing
+known (answers (honor-flag n)) = Nothing
 
 known-told : (a : Answer) → known (told a) ≡ a
 unfolding known told faultTold

@@ -12,7 +12,7 @@ use Rattle.master.specs.declared.Turned.the-variants.{Refused as NotTurn
 
 -- the kinds: nothing more to tell; a status; size code, partition number, control, volume; volume and sector; number, name found, and
 -- the number in the four serial bytes; was a turn due, did it end in a logout; the length of a frame written; the code of a frame read; how many
--- bits a frame of the line has; the user number and the length of a frame of the line
+-- bits a frame of the line has; the user number and the length of a frame of the line; the honor flag of a login
 pub data Answered : Type 0 where
   no-bytes : Answered
   status-byte : ℕ → Answered
@@ -24,6 +24,7 @@ pub data Answered : Type 0 where
   request-of : ℕ → Answered
   bits-of : ℕ → Answered
   line-of : ℕ → ℕ → Answered
+  honor-flag : ℕ → Answered
 
 -- a refusal by its number; refusal 10 with part, row and breach, which are no answer; an answer
 pub data Told : Type 0 where

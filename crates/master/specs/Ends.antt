@@ -4,7 +4,7 @@ use mathlib.Core.Bool.{Bool, false, not, _&&_, _||_}
 use mathlib.Core.List.{List}
 use lib.Dec.{eqb}
 use Rattle.who.specs.Logins.{loggedIn}
-use Rattle.master.specs.Answers.{Answered, no-bytes, status-byte, assign-bytes, place-at, login-as, turn-was, frame-of, request-of, bits-of, line-of, Told, refuses, refuses-site, answers}
+use Rattle.master.specs.Answers.{Answered, no-bytes, status-byte, assign-bytes, place-at, login-as, turn-was, frame-of, request-of, bits-of, line-of, honor-flag, Told, refuses, refuses-site, answers}
 use Rattle.master.specs.Effects.{Effect}
 
 -- the number that an answer gives to a login; 0 is none
@@ -19,6 +19,7 @@ numberIn (frame-of n) = 0
 numberIn (request-of code) = 0
 numberIn (bits-of n) = 0
 numberIn (line-of user n) = 0
+numberIn (honor-flag n) = 0
 
 -- k is the number given
 unfoldable pub gives : Told → ℕ → Bool
