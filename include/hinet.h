@@ -75,6 +75,7 @@
  *     hinet_poll                                                1680
  *     hinet_line_frame                                           960
  *     hinet_line_read                                            880
+ *     hinet_boot                                                 632
  *     hinet_frame                                                616
  *     hinet_line_write                                           576
  *     hinet_place                                                344
@@ -98,9 +99,9 @@
  * goes up where a program that kept to the header may have to be changed, the
  * second where something new can be called. */
 #define HINET_VERSION_MAJOR 4
-#define HINET_VERSION_MINOR 0
+#define HINET_VERSION_MINOR 1
 #define HINET_VERSION_PATCH 0
-#define HINET_VERSION "4.0.0"
+#define HINET_VERSION "4.1.0"
 
 #ifdef __cplusplus
 extern "C" {
@@ -140,6 +141,7 @@ extern "C" {
 #define HINET_REFUSED_BITS 20       /* bits not whole bytes */
 #define HINET_REFUSED_SHORT 21      /* under four bytes between the flags */
 #define HINET_REFUSED_CHECK 22      /* frame check */
+#define HINET_REFUSED_ROWS 23       /* table not of whole rows, or of too many */
 
 /* Kinds of answer, with their bytes. */
 #define HINET_KIND_NONE 0           /* no bytes */
@@ -154,6 +156,7 @@ extern "C" {
                                        word with something above bit 7 */
 #define HINET_KIND_BITS 8           /* bit count (4) */
 #define HINET_KIND_LINE 9           /* user number, data length (2) */
+#define HINET_KIND_BOOT 10          /* honor flag, 0 to 4 */
 #define HINET_KIND_REQUEST 13       /* code */
 
 /* The refusal number of an answer, 0 for none. */
@@ -201,6 +204,7 @@ static inline const char *hinet_refusal_text(unsigned refusal)
     case HINET_REFUSED_BITS:     return "the bits are not whole bytes";
     case HINET_REFUSED_SHORT:    return "there are under four bytes between the flags";
     case HINET_REFUSED_CHECK:    return "the frame check differs";
+    case HINET_REFUSED_ROWS:     return "a table is not whole rows, or has too many";
     default:                     return "no refusal number";
     }
 }
@@ -1214,6 +1218,253 @@ static inline uint16_t hinet_msdos_sectors_per_fat(const uint8_t *block)
 static inline uint16_t hinet_msdos_sectors_per_track(const uint8_t *block)
 {
     return hinet_block_two(block, 13);
+}
+
+/* ------------------------------------------------------------------------
+ * Choosing the system at login
+ * ------------------------------------------------------------------------
+ *
+ * What a station loads after its login, chosen from the tables of the makers'
+ * boot paper. The C program reads them from its disk and lends them, each as
+ * whole rows with nothing before or after. It also reads the Boot Phase 2
+ * program, puts the 194 bytes of the block behind the first four of that
+ * program, and sends it. The product row has its name; the C program finds the
+ * row by the same two searches, machine and product.
+ *
+ *   table          bytes   most   a row
+ *   machines          12    128   serial 4, product number, option map 6,
+ *                                 IOBYTE
+ *   products          25     40   product type, names of 8: Boot Phase 2,
+ *                                 Login Please, OS Menu
+ *   users             16    128   name 8, password 6, OS number, size flag
+ *   configurations    64    128   names of drives A to D, of 8; type-ahead: its
+ *                                 length and 31 bytes
+ *   systems           96    128   OS number, product map 16, option map 6,
+ *                                 load list: 8 names of 8, reserved 9
+ *   directory         24    128   name 8, disk address 5, length 2, load
+ *                                 address 4, offset to execution 2,
+ *                                 program/data flag, reserved 2
+ *
+ * That is, the bytes of a row and the most rows of a table. A table may be
+ * empty. A user row is that of a site file, so the file's own rows may be lent:
+ * they begin at its byte 8. A disk address is volume, partition, track (2) and
+ * sector. A length is in sectors of 128 bytes.
+ *
+ * A search takes the first row that fits:
+ *   machine   the row with the serial. Its product number, option map and
+ *             IOBYTE count; the product that a login frame sends does not.
+ *   product   the row whose type is the machine's product number. The top bit
+ *             of both is ignored. A row of type 0 ends the table: neither it
+ *             nor a row after it is found. Type 80 hex ends nothing.
+ *   user      the row with both name and password. Names of users are equal as
+ *             they are in a site file, padding aside.
+ *   system    one that fits. Upper halves of the user's and the system's OS
+ *             number are equal, and so are the lower halves, unless the user's
+ *             is 0. The product map has the bit of the machine's product
+ *             number, its top bit dropped: bit n is bit n % 8 of byte n / 8,
+ *             the low bit first. And the first name of the load list is in the
+ *             directory.
+ *   file      the directory row with the name. These names are compared byte by
+ *             byte. A null name, eight zeros, ends a load list. It is never in
+ *             the directory, though the row of the high-water mark has it.
+ *
+ * A user whose size flag has low bit 0 wants full service: the first system
+ * that fits with an option map equal to the machine's. Where there is none, or
+ * the low bit is 1, it is the smallest of the systems that fit: the one whose
+ * first file has the smallest length, the lower row where two are equal.
+ *
+ *   honor flag   what is loaded
+ *   0            the system with the machine's option map: its load list
+ *   1            the smallest system that fits: its load list
+ *   2            Login Please, as no user row has the name and password
+ *   3            OS Menu, as no system fits
+ *   4            nothing: no machine row, no product row, or a chosen name
+ *                is not in the directory
+ *
+ * Of a chosen system every name up to the first null one must be in the
+ * directory: where a later one is missing the flag is 4, and no other system
+ * is tried. The Boot Phase 2 name is not looked up.
+ *
+ * The block, 194 bytes:
+ *   0 - 31     names of drives A to D
+ *   32         IOBYTE, the machine row's
+ *   33 - 64    type-ahead, its length first
+ *   65         honor flag
+ *   66 - 193   eight load entries of 16 bytes, each a directory row without its
+ *              name, in the order of the load list; unused ones are zero
+ * Drives and type-ahead are those of the configuration row with the number of
+ * the user row, zeros where there is no such row, and zeros with flag 2.
+ * A station loads the entries up to the first of length 0, so a file of length
+ * 0 does not belong into a load list.
+ *
+ * With flag 4 there is no block to send, and the paper has the master reject
+ * the login. hinet_frame knows nothing of it: call hinet_boot with the fields
+ * of the login frame first, and serve the frame where the flag is another.
+ */
+
+#define HINET_MACHINE_ROW_BYTES 12
+#define HINET_MACHINES_MOST 128
+#define HINET_PRODUCT_ROW_BYTES 25
+#define HINET_PRODUCTS_MOST 40
+#define HINET_USER_ROW_BYTES 16
+#define HINET_USERS_MOST 128
+#define HINET_CONFIGURATION_ROW_BYTES 64
+#define HINET_CONFIGURATIONS_MOST 128
+#define HINET_SYSTEM_ROW_BYTES 96
+#define HINET_SYSTEMS_MOST 128
+#define HINET_DIRECTORY_ROW_BYTES 24
+#define HINET_DIRECTORY_MOST 128
+
+#define HINET_BOOT_DRIVES 4             /* names of drives, at 0 */
+#define HINET_BOOT_IOBYTE 32            /* where the IOBYTE stands */
+#define HINET_BOOT_TYPEAHEAD 33         /* where the type-ahead's length stands */
+#define HINET_BOOT_TYPEAHEAD_MOST 31    /* bytes after that length */
+#define HINET_BOOT_HONOR 65             /* where the honor flag stands */
+#define HINET_BOOT_ENTRY 66             /* where the first load entry stands */
+#define HINET_BOOT_ENTRIES 8
+#define HINET_BOOT_ENTRY_BYTES 16
+#define HINET_BOOT_BYTES 194
+
+/* Honor flags. */
+#define HINET_HONOR_EXACT 0         /* a system with the machine's options */
+#define HINET_HONOR_SMALLEST 1      /* the smallest system that fits */
+#define HINET_HONOR_LOGIN 2         /* Login Please */
+#define HINET_HONOR_MENU 3          /* OS Menu */
+#define HINET_HONOR_NOTHING 4       /* nothing, and no block */
+
+/* Kind BOOT: the honor flag, one of HINET_HONOR_... */
+static inline uint8_t hinet_answer_honor(uint64_t answer)
+{
+    return hinet_answer_byte(answer, 0);
+}
+
+/* What an honor flag means, as text in English. */
+static inline const char *hinet_honor_text(unsigned flag)
+{
+    switch (flag) {
+    case HINET_HONOR_EXACT:    return "a system with the machine's options";
+    case HINET_HONOR_SMALLEST: return "the smallest system that fits";
+    case HINET_HONOR_LOGIN:    return "Login Please, as name or password is unknown";
+    case HINET_HONOR_MENU:     return "OS Menu, as no system fits";
+    case HINET_HONOR_NOTHING:  return "nothing can be loaded";
+    default:                   return "no honor flag";
+    }
+}
+
+/*
+ * Chooses what a station loads, and writes the data block of Boot Phase 2 at
+ * the start of the buffer `block`. The tables may hold any bytes.
+ *
+ * Refusals, in this order:
+ *   23  a table is not whole rows, or has more rows than its limit
+ *   13  block_len is below 194, also where the flag would be 4
+ * Memory: with flags 0 to 3 the buffer holds the block; the bytes after it
+ *   stay. With flag 4 all of it stays.
+ * Answer: BOOT with the honor flag, which the block has too. Flag 4 is an
+ *   answer, no refusal.
+ */
+uint64_t hinet_boot(const uint8_t serial[HINET_SERIAL_BYTES],
+                    const uint8_t name[HINET_NAME_BYTES],
+                    const uint8_t password[HINET_PASSWORD_BYTES],
+                    const uint8_t *machines, size_t machines_len,
+                    const uint8_t *products, size_t products_len,
+                    const uint8_t *users, size_t users_len,
+                    const uint8_t *configurations, size_t configurations_len,
+                    const uint8_t *systems, size_t systems_len,
+                    const uint8_t *directory, size_t directory_len,
+                    uint8_t *block, size_t block_len);
+
+/* Fields of a block of 194 bytes. */
+
+/* The eight bytes of a drive's name; drive is 0 to 3, for A to D. */
+static inline const uint8_t *hinet_boot_drive(const uint8_t *block, unsigned drive)
+{
+    return block + HINET_NAME_BYTES * drive;
+}
+
+static inline uint8_t hinet_boot_iobyte(const uint8_t *block)
+{
+    return block[HINET_BOOT_IOBYTE];
+}
+
+/* How many bytes of the type-ahead are used. It is the byte of the table, and
+ * may be above 31 where the table is wrong. */
+static inline uint8_t hinet_boot_typeahead_length(const uint8_t *block)
+{
+    return block[HINET_BOOT_TYPEAHEAD];
+}
+
+/* The 31 bytes of the type-ahead. */
+static inline const uint8_t *hinet_boot_typeahead(const uint8_t *block)
+{
+    return block + HINET_BOOT_TYPEAHEAD + 1;
+}
+
+/* The honor flag, 0 to 3 in a block that was written. */
+static inline uint8_t hinet_boot_honor(const uint8_t *block)
+{
+    return block[HINET_BOOT_HONOR];
+}
+
+/* A load entry, 16 bytes; i is 0 to 7. */
+static inline const uint8_t *hinet_boot_entry(const uint8_t *block, unsigned i)
+{
+    return block + HINET_BOOT_ENTRY + HINET_BOOT_ENTRY_BYTES * i;
+}
+
+/* Fields of a load entry. */
+
+static inline hinet_volume hinet_entry_volume(const uint8_t *entry)
+{
+    return hinet_volume_of(entry[0]);
+}
+
+static inline hinet_partition hinet_entry_partition(const uint8_t *entry)
+{
+    return hinet_partition_of(entry[1]);
+}
+
+static inline hinet_track hinet_entry_track(const uint8_t *entry)
+{
+    return hinet_track_of(entry[2] | (uint32_t)entry[3] << 8);
+}
+
+static inline hinet_sector hinet_entry_sector(const uint8_t *entry)
+{
+    return hinet_sector_of(entry[4]);
+}
+
+/* Sectors of 128 bytes. */
+static inline uint16_t hinet_entry_length(const uint8_t *entry)
+{
+    return hinet_block_two(entry, 5);
+}
+
+/* Where in the station's memory the file is loaded. */
+static inline uint32_t hinet_entry_load_address(const uint8_t *entry)
+{
+    return hinet_block_two(entry, 7) | (uint32_t)hinet_block_two(entry, 9) << 16;
+}
+
+/* How far from there execution begins. */
+static inline uint16_t hinet_entry_start_offset(const uint8_t *entry)
+{
+    return hinet_block_two(entry, 11);
+}
+
+/* The program/data flag; its low bit is 1 for a program. */
+static inline uint8_t hinet_entry_flag(const uint8_t *entry)
+{
+    return entry[13];
+}
+
+/* How many entries a station loads: those before the first of length 0. */
+static inline unsigned hinet_boot_entry_count(const uint8_t *block)
+{
+    unsigned i = 0;
+    while (i < HINET_BOOT_ENTRIES && hinet_entry_length(hinet_boot_entry(block, i)) != 0)
+        i++;
+    return i;
 }
 
 /* ------------------------------------------------------------------------

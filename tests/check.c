@@ -51,10 +51,11 @@ static int unchanged(const struct lent *slice)
 
 /* ---- outcomes ---- */
 
-/* Refusals 1 to 22 have their own numbers as outcomes, but for 10: it has one
+/* Refusals 1 to 23 have their own numbers as outcomes, but for 10: it has one
  * for each kind of fault. */
+enum { REFUSAL_LAST = 23 };
 enum outcome {
-    FAULT_HEADER = 23, FAULT_USER_NAME,
+    FAULT_HEADER = 32, FAULT_USER_NAME,
     FAULT_RANGE, FAULT_NAME, FAULT_NUMBER, FAULT_OVERLAP,
     NONE,
     STATUS_00, STATUS_01, STATUS_02, STATUS_81, STATUS_82,
@@ -65,6 +66,7 @@ enum outcome {
     WRITTEN_0, WRITTEN_1, WRITTEN_2, WRITTEN_8, WRITTEN_15, WRITTEN_20,
     LINE_BITS,
     LINE_MASTER, LINE_OTHER,
+    BOOT_0, BOOT_1, BOOT_2, BOOT_3, BOOT_4,
     REQUEST_41, REQUEST_11, REQUEST_12, REQUEST_13, REQUEST_17, REQUEST_19,
     REQUEST_1A, REQUEST_1B, REQUEST_1F,
     OUTCOMES
@@ -90,6 +92,9 @@ static const char *const outcome_names[OUTCOMES] = {
     [WRITTEN_15] = "kind 6, length 15", [WRITTEN_20] = "kind 6, length 20",
     [LINE_BITS] = "kind 8, bits",
     [LINE_MASTER] = "kind 9, for number 0", [LINE_OTHER] = "kind 9, for another",
+    [BOOT_0] = "kind 10, flag 0", [BOOT_1] = "kind 10, flag 1",
+    [BOOT_2] = "kind 10, flag 2", [BOOT_3] = "kind 10, flag 3",
+    [BOOT_4] = "kind 10, flag 4",
     [REQUEST_41] = "kind 13, code 41", [REQUEST_11] = "kind 13, code 11",
     [REQUEST_12] = "kind 13, code 12", [REQUEST_13] = "kind 13, code 13",
     [REQUEST_17] = "kind 13, code 17", [REQUEST_19] = "kind 13, code 19",
@@ -97,51 +102,64 @@ static const char *const outcome_names[OUTCOMES] = {
     [REQUEST_1F] = "kind 13, code 1F"
 };
 
-#define BIT(outcome) ((uint64_t)1 << (outcome))
+/* Sets of refusals, and of the outcomes from FAULT_HEADER on. */
+#define NO(refusal) ((uint32_t)1 << (refusal))
+#define NOS(first, last) (NO((last) + 1) - NO(first))
+#define BIT(outcome) ((uint64_t)1 << ((outcome) - FAULT_HEADER))
 #define BITS(first, last) (BIT((last) + 1) - BIT(first))
 #define FAULTS BITS(FAULT_HEADER, FAULT_OVERLAP)
 
-/* The entries and the outcomes each must be seen to have. */
+/* The entries, and the refusals and other outcomes each must be seen to have. */
 static const struct {
     const char *name;
+    uint32_t refusals;
     uint64_t outcomes;
 } entries[ENTRIES] = {
-    [ENTRY_FRESH] = { "hinet_fresh", BIT(11) | BIT(NONE) },
-    [ENTRY_CHECK_TABLES] = { "hinet_check_tables", BIT(11) | BIT(NONE) },
-    [ENTRY_CHECK_SITE] = { "hinet_check_site", FAULTS | BIT(NONE) },
+    [ENTRY_FRESH] = { "hinet_fresh", NO(11), BIT(NONE) },
+    [ENTRY_CHECK_TABLES] = { "hinet_check_tables", NO(11), BIT(NONE) },
+    [ENTRY_CHECK_SITE] = { "hinet_check_site", 0, FAULTS | BIT(NONE) },
     [ENTRY_FRAME] = { "hinet_frame",
-        BITS(1, 9) | FAULTS | BIT(11) | BITS(NONE, LOGIN_FULL) },
-    [ENTRY_PLACE] = { "hinet_place", BIT(8) | BIT(9) | FAULTS | BIT(PLACE) },
+        NOS(1, 9) | NO(11), FAULTS | BITS(NONE, LOGIN_FULL) },
+    [ENTRY_PLACE] = { "hinet_place", NO(8) | NO(9), FAULTS | BIT(PLACE) },
     [ENTRY_READ_FRAME] = { "hinet_read_frame",
-        BIT(1) | BIT(3) | BIT(4) | BIT(6) | BITS(REQUEST_41, REQUEST_1F) },
-    [ENTRY_WRITE_ACKNOWLEDGE] = { "hinet_write_acknowledge", BIT(13) | BIT(WRITTEN_1) },
-    [ENTRY_WRITE_READ] = { "hinet_write_read", BIT(13) | BIT(WRITTEN_8) },
-    [ENTRY_WRITE_WRITE] = { "hinet_write_write", BIT(13) | BIT(WRITTEN_8) },
-    [ENTRY_WRITE_LOGIN] = { "hinet_write_login", BIT(13) | BIT(WRITTEN_20) },
-    [ENTRY_WRITE_ASSIGN] = { "hinet_write_assign", BIT(13) | BIT(WRITTEN_15) },
-    [ENTRY_WRITE_LOCK] = { "hinet_write_lock", BIT(13) | BIT(WRITTEN_15) },
-    [ENTRY_WRITE_UNLOCK] = { "hinet_write_unlock", BIT(13) | BIT(WRITTEN_15) },
-    [ENTRY_WRITE_CLEAR] = { "hinet_write_clear", BIT(13) | BIT(WRITTEN_1) },
-    [ENTRY_WRITE_LOGOUT] = { "hinet_write_logout", BIT(13) | BIT(WRITTEN_2) },
+        NO(1) | NO(3) | NO(4) | NO(6), BITS(REQUEST_41, REQUEST_1F) },
+    [ENTRY_WRITE_ACKNOWLEDGE] = { "hinet_write_acknowledge", NO(13), BIT(WRITTEN_1) },
+    [ENTRY_WRITE_READ] = { "hinet_write_read", NO(13), BIT(WRITTEN_8) },
+    [ENTRY_WRITE_WRITE] = { "hinet_write_write", NO(13), BIT(WRITTEN_8) },
+    [ENTRY_WRITE_LOGIN] = { "hinet_write_login", NO(13), BIT(WRITTEN_20) },
+    [ENTRY_WRITE_ASSIGN] = { "hinet_write_assign", NO(13), BIT(WRITTEN_15) },
+    [ENTRY_WRITE_LOCK] = { "hinet_write_lock", NO(13), BIT(WRITTEN_15) },
+    [ENTRY_WRITE_UNLOCK] = { "hinet_write_unlock", NO(13), BIT(WRITTEN_15) },
+    [ENTRY_WRITE_CLEAR] = { "hinet_write_clear", NO(13), BIT(WRITTEN_1) },
+    [ENTRY_WRITE_LOGOUT] = { "hinet_write_logout", NO(13), BIT(WRITTEN_2) },
     [ENTRY_DUE] = { "hinet_due",
-        BIT(11) | BIT(2) | BIT(5) | BIT(TURN_NOT_DUE) | BIT(TURN_DUE) },
+        NO(11) | NO(2) | NO(5), BIT(TURN_NOT_DUE) | BIT(TURN_DUE) },
     [ENTRY_POLL] = { "hinet_poll",
-        BIT(11) | BIT(2) | BIT(5) | BIT(12) | BITS(TURN_NOT_DUE, TURN_OUT) },
-    [ENTRY_STATION_FRESH] = { "hinet_station_fresh", BIT(11) | BIT(NONE) },
-    [ENTRY_STATION_LOCK] = { "hinet_station_lock", BIT(11) | BIT(14) | BIT(NONE) },
-    [ENTRY_STATION_UNLOCK] = { "hinet_station_unlock", BIT(11) | BIT(14) | BIT(NONE) },
-    [ENTRY_STATION_CLEAR] = { "hinet_station_clear", BIT(11) | BIT(14) | BIT(NONE) },
+        NO(11) | NO(2) | NO(5) | NO(12), BITS(TURN_NOT_DUE, TURN_OUT) },
+    [ENTRY_STATION_FRESH] = { "hinet_station_fresh", NO(11), BIT(NONE) },
+    [ENTRY_STATION_LOCK] = { "hinet_station_lock", NO(11) | NO(14), BIT(NONE) },
+    [ENTRY_STATION_UNLOCK] = { "hinet_station_unlock", NO(11) | NO(14), BIT(NONE) },
+    [ENTRY_STATION_CLEAR] = { "hinet_station_clear", NO(11) | NO(14), BIT(NONE) },
     [ENTRY_STATION_FRAME] = { "hinet_station_frame",
-        BIT(11) | BIT(13) | BIT(WRITTEN_0) | BIT(WRITTEN_1) | BIT(WRITTEN_15) },
-    [ENTRY_STATION_REPLY] = { "hinet_station_reply", BIT(11) | BIT(15) | BIT(NONE) },
-    [ENTRY_CPM_PARAMETERS] = { "hinet_cpm_parameters", BIT(16) | BIT(13) | BIT(WRITTEN_15) },
-    [ENTRY_MSDOS_PARAMETERS] = { "hinet_msdos_parameters", BIT(16) | BIT(13) | BIT(WRITTEN_15) },
-    [ENTRY_LINE_WRITE] = { "hinet_line_write", BIT(17) | BIT(13) | BIT(LINE_BITS) },
+        NO(11) | NO(13), BIT(WRITTEN_0) | BIT(WRITTEN_1) | BIT(WRITTEN_15) },
+    [ENTRY_STATION_REPLY] = { "hinet_station_reply", NO(11) | NO(15), BIT(NONE) },
+    [ENTRY_CPM_PARAMETERS] = { "hinet_cpm_parameters", NO(16) | NO(13), BIT(WRITTEN_15) },
+    [ENTRY_MSDOS_PARAMETERS] = { "hinet_msdos_parameters", NO(16) | NO(13), BIT(WRITTEN_15) },
+    [ENTRY_LINE_WRITE] = { "hinet_line_write", NO(17) | NO(13), BIT(LINE_BITS) },
     [ENTRY_LINE_READ] = { "hinet_line_read",
-        BITS(17, 22) | BIT(13) | BIT(LINE_MASTER) | BIT(LINE_OTHER) },
+        NOS(17, 22) | NO(13), BIT(LINE_MASTER) | BIT(LINE_OTHER) },
     [ENTRY_LINE_FRAME] = { "hinet_line_frame",
-        BITS(17, 22) | BITS(2, 9) | FAULTS | BIT(11) | BITS(NONE, LOGIN_FULL) | BIT(LINE_OTHER) }
+        NOS(17, 22) | NOS(2, 9) | NO(11), FAULTS | BITS(NONE, LOGIN_FULL) | BIT(LINE_OTHER) },
+    [ENTRY_BOOT] = { "hinet_boot", NO(23) | NO(13), BITS(BOOT_0, BOOT_4) }
 };
+
+/* Is this an outcome that the entry must be seen to have? */
+static int has_outcome(unsigned entry, unsigned outcome)
+{
+    if (outcome < FAULT_HEADER)
+        return (entries[entry].refusals >> outcome & 1) != 0;
+    return (entries[entry].outcomes >> (outcome - FAULT_HEADER) & 1) != 0;
+}
 
 static unsigned long counts[ENTRIES][OUTCOMES];
 
@@ -209,6 +227,13 @@ static enum outcome line_outcome(uint64_t answer)
     return answer_byte(answer, 0) == 0 ? LINE_MASTER : LINE_OTHER;
 }
 
+/* A choice at login by its honor flag. */
+static enum outcome boot_outcome(uint64_t answer)
+{
+    unsigned flag = answer_byte(answer, 0);
+    return flag <= 4 ? (enum outcome)(BOOT_0 + flag) : OUTCOMES;
+}
+
 static enum outcome request_outcome(uint64_t answer)
 {
     switch (answer_byte(answer, 0)) {
@@ -259,7 +284,7 @@ static enum outcome outcome_of(uint64_t answer)
     if (refusal == 10)
         return fault_outcome(answer);
     if (refusal != 0)
-        return refusal < FAULT_HEADER ? (enum outcome)refusal : OUTCOMES;
+        return refusal <= REFUSAL_LAST ? (enum outcome)refusal : OUTCOMES;
     switch (answer >> 8 & 0xFF) {
     case 0:  return NONE;
     case 1:  return status_outcome(answer);
@@ -270,6 +295,7 @@ static enum outcome outcome_of(uint64_t answer)
     case 6:  return written_outcome(answer);
     case 8:  return bits_outcome(answer);
     case 9:  return line_outcome(answer);
+    case 10: return boot_outcome(answer);
     case 13: return request_outcome(answer);
     default: return OUTCOMES;
     }
@@ -283,13 +309,13 @@ static int nothing_above_refusal(uint64_t answer)
     return answer >> 8 == 0;
 }
 
-/* Are the bits above the answer's own bytes zero? Kind 7, those from 10 to 12
- * and those above 13 have no answer. */
+/* Are the bits above the answer's own bytes zero? Kinds 7, 11 and 12 and those
+ * above 13 have no answer. */
 static int nothing_above(uint64_t answer)
 {
     enum { NO_KIND = 7, KINDS = 14 };
     static const unsigned bytes[KINDS] = {
-        0, 1, 4, 5, 6, 2, 1, NO_KIND, 4, 3, NO_KIND, NO_KIND, NO_KIND, 1
+        0, 1, 4, 5, 6, 2, 1, NO_KIND, 4, 3, 1, NO_KIND, NO_KIND, 1
     };
     unsigned kind = (unsigned)(answer >> 8 & 0xFF);
     if ((answer & 0xFF) != 0)
@@ -369,7 +395,7 @@ void check_call(const struct call *call)
     if (call->library != call->reference)
         fail("answers differ");
     enum outcome outcome = outcome_of(call->library);
-    if (outcome == OUTCOMES || (entries[call->entry].outcomes & BIT(outcome)) == 0)
+    if (outcome == OUTCOMES || !has_outcome(call->entry, outcome))
         fail("an outcome that this entry does not have");
     counts[call->entry][outcome]++;
 }
@@ -418,7 +444,7 @@ int report(enum entry first, enum entry last)
     for (unsigned e = first; e <= last; e++) {
         printf("%s\n", entries[e].name);
         for (unsigned o = 1; o < OUTCOMES; o++) {
-            if ((entries[e].outcomes & BIT(o)) == 0)
+            if (!has_outcome(e, o))
                 continue;
             print_outcome(o, counts[e][o]);
             calls += counts[e][o];

@@ -8,7 +8,7 @@
 #include <stddef.h>
 #include <stdint.h>
 
-enum { MARGIN = 32, LENT_MOST = 8192 };
+enum { MARGIN = 32, LENT_MOST = 12544, PARTS_MOST = 10 };
 
 /* A lent slice with canaries on both sides, and a copy of what was lent. */
 struct lent {
@@ -35,6 +35,7 @@ enum entry {
     ENTRY_STATION_CLEAR, ENTRY_STATION_FRAME, ENTRY_STATION_REPLY,
     ENTRY_CPM_PARAMETERS, ENTRY_MSDOS_PARAMETERS,
     ENTRY_LINE_WRITE, ENTRY_LINE_READ, ENTRY_LINE_FRAME,
+    ENTRY_BOOT,
     ENTRIES
 };
 
@@ -51,7 +52,7 @@ struct call {
     unsigned numbers;
     uint64_t number[5];
     unsigned parts;
-    struct part part[4];
+    struct part part[PARTS_MOST];
     uint64_t library;
     uint64_t reference;
 };

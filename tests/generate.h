@@ -264,4 +264,43 @@ void state_damaged(struct rng *rng, struct state *state, enum state_damage damag
 /* A good state with a few bytes changed: good or not. */
 void state_scrambled(struct rng *rng, struct state *state);
 
+/* ---- tables of the boot ---- */
+
+enum boot_table {
+    BOOT_MACHINES, BOOT_PRODUCTS, BOOT_USERS, BOOT_CONFIGURATIONS, BOOT_SYSTEMS,
+    BOOT_DIRECTORY,
+    BOOT_TABLES
+};
+
+/* The bytes of a row of each table, and the most rows. */
+extern const size_t boot_row_len[BOOT_TABLES];
+extern const unsigned boot_most[BOOT_TABLES];
+
+/* A login and the tables that it is served from; there is room for a row over
+ * the limit and some bytes. */
+enum { BOOT_ROOM = 12544 };
+struct boot {
+    uint8_t serial[4], name[8], password[6];
+    size_t len[BOOT_TABLES];
+    uint8_t bytes[BOOT_TABLES][BOOT_ROOM];
+};
+
+unsigned boot_rows(const struct boot *boot, enum boot_table table);
+uint8_t *boot_row(struct boot *boot, enum boot_table table, unsigned i);
+
+/* Puts a row before row i, which may be the one after the last. */
+void boot_insert(struct boot *boot, enum boot_table table, unsigned i, const uint8_t *row);
+
+/* A row that this login passes over, for one of several reasons, where users'
+ * OS numbers are below 80. A system is made from the first one. */
+void boot_passed_over(struct rng *rng, const struct boot *boot, enum boot_table table,
+                      uint8_t *row);
+
+/* Whole tables of look-alike rows, and a login that mostly finds something. */
+void boot_any(struct rng *rng, struct boot *boot);
+
+/* A length of a table that is refused: bytes over whole rows, or rows over the
+ * limit, one or the other. */
+size_t boot_bad_length(struct rng *rng, enum boot_table table);
+
 #endif

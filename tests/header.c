@@ -37,6 +37,9 @@ uint64_t hinet_station_frame(const uint8_t *, size_t, uint8_t *, size_t);
 uint64_t hinet_station_reply(uint8_t *, size_t, uint32_t);
 uint64_t hinet_cpm_parameters(uint32_t, uint8_t *, size_t);
 uint64_t hinet_msdos_parameters(uint32_t, uint8_t *, size_t);
+uint64_t hinet_boot(const uint8_t[4], const uint8_t[8], const uint8_t[6], const uint8_t *, size_t,
+                    const uint8_t *, size_t, const uint8_t *, size_t, const uint8_t *, size_t,
+                    const uint8_t *, size_t, const uint8_t *, size_t, uint8_t *, size_t);
 uint64_t hinet_line_write(uint8_t, const uint8_t *, size_t, uint8_t *, size_t);
 uint64_t hinet_line_read(const uint8_t *, size_t, size_t, uint8_t *, size_t);
 uint64_t hinet_line_frame(uint32_t, const uint8_t *, size_t, size_t, const uint8_t *, size_t,
@@ -90,6 +93,7 @@ static void refusals_and_kinds(void)
     SAME(HINET_REFUSED_BITS, 20);
     SAME(HINET_REFUSED_SHORT, 21);
     SAME(HINET_REFUSED_CHECK, 22);
+    SAME(HINET_REFUSED_ROWS, 23);
     SAME(HINET_KIND_NONE, 0);
     SAME(HINET_KIND_STATUS, 1);
     SAME(HINET_KIND_ASSIGN, 2);
@@ -100,6 +104,7 @@ static void refusals_and_kinds(void)
     SAME(HINET_KIND_FAULT, 7);
     SAME(HINET_KIND_BITS, 8);
     SAME(HINET_KIND_LINE, 9);
+    SAME(HINET_KIND_BOOT, 10);
     SAME(HINET_KIND_REQUEST, 13);
 }
 
@@ -168,6 +173,36 @@ static void table_constants(void)
     SAME(HINET_PARAMETERS_BYTES, 15);
 }
 
+static void boot_constants(void)
+{
+    SAME(HINET_MACHINE_ROW_BYTES, 12);
+    SAME(HINET_MACHINES_MOST, 128);
+    SAME(HINET_PRODUCT_ROW_BYTES, 25);
+    SAME(HINET_PRODUCTS_MOST, 40);
+    SAME(HINET_USER_ROW_BYTES, 16);
+    SAME(HINET_USERS_MOST, 128);
+    SAME(HINET_CONFIGURATION_ROW_BYTES, 64);
+    SAME(HINET_CONFIGURATIONS_MOST, 128);
+    SAME(HINET_SYSTEM_ROW_BYTES, 96);
+    SAME(HINET_SYSTEMS_MOST, 128);
+    SAME(HINET_DIRECTORY_ROW_BYTES, 24);
+    SAME(HINET_DIRECTORY_MOST, 128);
+    SAME(HINET_BOOT_DRIVES, 4);
+    SAME(HINET_BOOT_IOBYTE, 32);
+    SAME(HINET_BOOT_TYPEAHEAD, 33);
+    SAME(HINET_BOOT_TYPEAHEAD_MOST, 31);
+    SAME(HINET_BOOT_HONOR, 65);
+    SAME(HINET_BOOT_ENTRY, 66);
+    SAME(HINET_BOOT_ENTRIES, 8);
+    SAME(HINET_BOOT_ENTRY_BYTES, 16);
+    SAME(HINET_BOOT_BYTES, 194);
+    SAME(HINET_HONOR_EXACT, 0);
+    SAME(HINET_HONOR_SMALLEST, 1);
+    SAME(HINET_HONOR_LOGIN, 2);
+    SAME(HINET_HONOR_MENU, 3);
+    SAME(HINET_HONOR_NOTHING, 4);
+}
+
 static void line_constants(void)
 {
     SAME(HINET_LINE_DATA_MOST, 1024);
@@ -179,9 +214,9 @@ static void line_constants(void)
 static void version(void)
 {
     SAME(HINET_VERSION_MAJOR, 4);
-    SAME(HINET_VERSION_MINOR, 0);
+    SAME(HINET_VERSION_MINOR, 1);
     SAME(HINET_VERSION_PATCH, 0);
-    SAME(strcmp(HINET_VERSION, "4.0.0"), 0);
+    SAME(strcmp(HINET_VERSION, "4.1.0"), 0);
 }
 
 /* ---- types ---- */
@@ -228,6 +263,7 @@ static void word_of(uint64_t word, const uint8_t bytes[8], uint32_t sector, uint
     SAME(hinet_fault_part(word), bytes[2]);
     SAME(hinet_fault_row(word), bytes[3]);
     SAME(hinet_fault_breach(word), bytes[4]);
+    SAME(hinet_answer_honor(word), bytes[2]);
     SAME(hinet_answer_bit_count(word), bits);
     SAME(hinet_answer_line_user(word), bytes[2]);
     SAME(hinet_answer_line_length(word), length);
@@ -245,7 +281,7 @@ static void words(void)
 /* The text of each refusal, and of a number that is none. */
 static void refusal_texts(void)
 {
-    static const char *const texts[24] = {
+    static const char *const texts[25] = {
         "not refused",
         "the frame is empty",
         "the number is not 0 to 63 or 253, or is not logged in",
@@ -269,13 +305,14 @@ static void refusal_texts(void)
         "the bits are not whole bytes",
         "there are under four bytes between the flags",
         "the frame check differs",
+        "a table is not whole rows, or has too many",
         "no refusal number"
     };
-    for (unsigned i = 0; i < 24; i++)
+    for (unsigned i = 0; i < 25; i++)
         same(texts[i], strcmp(hinet_refusal_text(i), texts[i]) == 0, 1);
-    SAME(strcmp(hinet_refusal_text(255), texts[23]), 0);
-    SAME(strcmp(hinet_refusal_text(256), texts[23]), 0);
-    SAME(strcmp(hinet_refusal_text(0xFFFFFFFFu), texts[23]), 0);
+    SAME(strcmp(hinet_refusal_text(255), texts[24]), 0);
+    SAME(strcmp(hinet_refusal_text(256), texts[24]), 0);
+    SAME(strcmp(hinet_refusal_text(0xFFFFFFFFu), texts[24]), 0);
 }
 
 /* The text of each part and each breach, and of a number that is none. */
@@ -295,6 +332,19 @@ static void fault_texts(void)
     SAME(strcmp(hinet_breach_text(5), "no breach"), 0);
     SAME(strcmp(hinet_breach_text(257), "no breach"), 0);
     SAME(strcmp(hinet_breach_text(0xFFFFFFFFu), "no breach"), 0);
+}
+
+/* The text of each honor flag, and of a number that is none. */
+static void honor_texts(void)
+{
+    SAME(strcmp(hinet_honor_text(0), "a system with the machine's options"), 0);
+    SAME(strcmp(hinet_honor_text(1), "the smallest system that fits"), 0);
+    SAME(strcmp(hinet_honor_text(2), "Login Please, as name or password is unknown"), 0);
+    SAME(strcmp(hinet_honor_text(3), "OS Menu, as no system fits"), 0);
+    SAME(strcmp(hinet_honor_text(4), "nothing can be loaded"), 0);
+    SAME(strcmp(hinet_honor_text(5), "no honor flag"), 0);
+    SAME(strcmp(hinet_honor_text(256), "no honor flag"), 0);
+    SAME(strcmp(hinet_honor_text(0xFFFFFFFFu), "no honor flag"), 0);
 }
 
 /* ---- fields of frames, tables and states ---- */
@@ -445,6 +495,50 @@ static void block_fields(void)
     SAME(hinet_msdos_media(block), 0xDB);
     SAME(hinet_msdos_sectors_per_fat(block), 0xED6C);
     SAME(hinet_msdos_sectors_per_track(block), 0xFF7E);
+}
+
+/* A load entry whose bytes all differ. */
+static void entry_fields(void)
+{
+    static const uint8_t entry[16] = { 0x81, 0x12, 0x93, 0xA4, 0x25, 0xB6, 0x37, 0xC8,
+                                       0x49, 0xDA, 0xEB, 0x5C, 0xFD, 0x6E, 0x7F, 0x01 };
+    SAME(hinet_entry_volume(entry).number, 0x81);
+    SAME(hinet_entry_partition(entry).number, 0x12);
+    SAME(hinet_entry_track(entry).number, 0xA493);
+    SAME(hinet_entry_sector(entry).number, 0x25);
+    SAME(hinet_entry_length(entry), 0x37B6);
+    SAME(hinet_entry_load_address(entry), 0xEBDA49C8u);
+    SAME(hinet_entry_start_offset(entry), 0xFD5C);
+    SAME(hinet_entry_flag(entry), 0x6E);
+}
+
+/* A boot block of bytes EE. Entries count up to the first of length 0, which has
+ * two bytes; what follows it does not count. */
+static void boot_fields(void)
+{
+    static uint8_t block[194];
+    memset(block, 0xEE, sizeof block);
+    memcpy(block + 32, "\x91\xA2", 2);
+    block[65] = 0x83;
+    SAME(hinet_boot_drive(block, 0) - block, 0);
+    SAME(hinet_boot_drive(block, 3) - block, 24);
+    SAME(hinet_boot_iobyte(block), 0x91);
+    SAME(hinet_boot_typeahead_length(block), 0xA2);
+    SAME(hinet_boot_typeahead(block) - block, 34);
+    SAME(hinet_boot_honor(block), 0x83);
+    SAME(hinet_boot_entry(block, 0) - block, 66);
+    SAME(hinet_boot_entry(block, 7) - block, 178);
+    SAME(hinet_boot_entry_count(block), 8);
+    block[183] = 0;
+    SAME(hinet_boot_entry_count(block), 8);
+    block[184] = 0;
+    SAME(hinet_boot_entry_count(block), 7);
+    block[104] = 0;
+    SAME(hinet_boot_entry_count(block), 7);
+    block[103] = 0;
+    SAME(hinet_boot_entry_count(block), 2);
+    memset(block + 71, 0, 2);
+    SAME(hinet_boot_entry_count(block), 0);
 }
 
 /* ---- one call of each entry ---- */
@@ -624,6 +718,49 @@ static void entries_of_parameters(void)
     same_bytes("MS-DOS", buffer, "\x80\0\x10\x01\0\x02\0\x01\0\x80\x04\x18\0\x80\0\xEE", 16);
 }
 
+/* BETTY at a machine of product 5 asks for OS 11, full service. */
+static const uint8_t machine_row[12] = { 0x12, 0x34, 0x56, 0x78, 0x85, 1, 2, 3, 4, 5, 6, 0x95 };
+static const char product_row[] = "\x05" "BOOT5   LOGIN   MENU    ";
+static const char user_row[] = "BETTY\0\0\0SECRET\x11\0";
+static const char configuration_row[] =
+    "STOCK   ORDERS  LETTERS PAPERS  \x03" "DIRand 28 bytes that are not it";
+static const char system_row[96] = "\x11\x20\0\0\0\0\0\0\0\0\0\0\0\0\0\0\0"
+    "\1\2\3\4\5\6" "CPM     ";
+static const char file_rows[] = "LOGIN   \0\1\2\3\4\5\0\7\10\11\12\13\14\15\16\17"
+    "CPM     \0\1\x22\x33\x44\x55\0\x77\x88\x99\xAA\xBB\xCC\1\xEE\xFF";
+
+/* Her block, in a buffer; so many bytes are missing at the end of the directory. */
+static uint64_t betty_boots(const uint8_t *her_password, size_t missing, uint8_t *block, size_t len)
+{
+    return hinet_boot(serial, name, her_password, machine_row, sizeof machine_row,
+                      named(product_row), 25, named(user_row), 16, named(configuration_row), 64,
+                      named(system_row), 96, named(file_rows), 48 - missing, block, len);
+}
+
+static void entries_of_the_boot(void)
+{
+    uint8_t block[195];
+    memset(block, 0xEE, sizeof block);
+    SAME(betty_boots(password, 1, block, 193), 23);
+    SAME(betty_boots(password, 0, block, 193), 13);
+    SAME(hinet_boot(name, name, password, machine_row, 12, machine_row, 0, machine_row, 0,
+                    machine_row, 0, machine_row, 0, machine_row, 0, block, 195), 0x040A00);
+    SAME(block[0], 0xEE);
+    SAME(block[193], 0xEE);
+    SAME(betty_boots(password, 0, block, 195), 0x000A00);
+    same_bytes("drives", block, configuration_row, 32);
+    SAME(hinet_boot_iobyte(block), 0x95);
+    same_bytes("type-ahead", block + 33, configuration_row + 32, 32);
+    SAME(hinet_boot_honor(block), 0);
+    same_bytes("entry", hinet_boot_entry(block, 0), file_rows + 32, 16);
+    SAME(hinet_boot_entry_count(block), 1);
+    SAME(block[193], 0);
+    SAME(block[194], 0xEE);
+    SAME(betty_boots(name, 0, block, 194), 0x020A00);
+    same_bytes("no drives", block, system_row + 40, 32);
+    same_bytes("login", hinet_boot_entry(block, 0), file_rows + 8, 16);
+}
+
 /* User number 31 and 32 to 39 have the published check 906E. The check of 00 F0
  * is F8C8: it ends in five ones, and a zero comes after them. */
 static void bits_of_the_line(void)
@@ -675,23 +812,28 @@ int main(void)
     refusals_and_kinds();
     frame_constants();
     table_constants();
+    boot_constants();
     line_constants();
     version();
     types();
     words();
     refusal_texts();
     fault_texts();
+    honor_texts();
     request_fields();
     names();
     row_fields();
     record_fields();
     state_fields();
     block_fields();
+    entry_fields();
+    boot_fields();
     entries_of_frames();
     entries_of_the_master();
     faults_of_a_site();
     entries_of_a_station();
     entries_of_parameters();
+    entries_of_the_boot();
     bits_of_the_line();
     entries_of_the_line();
     printf("header: %lu compared, %lu different\n", compared, different);

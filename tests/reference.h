@@ -68,6 +68,16 @@ uint64_t ref_station_reply(uint8_t *station, size_t station_len,
 uint64_t ref_cpm_parameters(uint32_t size, uint8_t *buffer, size_t buffer_len);
 uint64_t ref_msdos_parameters(uint32_t size, uint8_t *buffer, size_t buffer_len);
 
+/* What a station loads at login. */
+uint64_t ref_boot(const uint8_t serial[4], const uint8_t name[8], const uint8_t password[6],
+                  const uint8_t *machines, size_t machines_len,
+                  const uint8_t *products, size_t products_len,
+                  const uint8_t *users, size_t users_len,
+                  const uint8_t *configurations, size_t configurations_len,
+                  const uint8_t *systems, size_t systems_len,
+                  const uint8_t *directory, size_t directory_len,
+                  uint8_t *block, size_t block_len);
+
 /* The frame on the line; the check of any bytes too. */
 uint64_t ref_line_write(uint8_t user, const uint8_t *data, size_t data_len,
                         uint8_t *bits, size_t bits_len);
