@@ -1,10 +1,13 @@
 // A frame of the line, as a person types it and reads it. What stands on the line, `framing` alone says: here its bits are
 // walked and told. A byte is a row: its bits in the order in which they go on the line, a zero that was put in between
 // parentheses, and behind a semicolon what it is.
+use crate::Told;
 use crate::append;
 use crate::append_both;
 use crate::append_bytes;
 use crate::append_row;
+use crate::append_shown;
+use crate::bytes_of;
 use crate::digit;
 use framing::Reading;
 use framing::Written;
@@ -19,12 +22,6 @@ const BITS: usize = 2048;
 
 // Room for the rows of the longest frame, 1031, and the line below them.
 pub const PAGE: usize = 27000;
-
-// What came of it: where the words about it end, and whether there is a frame.
-pub struct Told {
-    pub end: usize,
-    pub good: bool,
-}
 
 // The row of a flag, of the user number, of a data byte and of a byte of the check, with room for the bits and the byte.
 const ROWS: [[u8; 26]; 4] = [
@@ -73,43 +70,6 @@ fn append_refusal(page: &mut [u8], k: u8) -> usize
             b"refused 13: the buffer is too short for the frame\n",
         ),
     }
-}
-
-// The number that a hexadecimal digit is; 16 for another character.
-fn value(c: u8) -> u8
-    ensures { λ r. ⌜ r ≤ 16 ⌝ }
-{
-    match c {
-        b'0'..=b'9' => c - b'0',
-        b'A'..=b'F' => c - b'A' + 10,
-        b'a'..=b'f' => c - b'a' + 10,
-        _ => 16,
-    }
-}
-
-// Puts the bytes that the first n characters have in hex down in their place, and answers how many; 0 where there is another
-// character, or half a byte.
-fn bytes_of(text: &mut [u8], n: usize) -> usize
-    requires { ⌜ n ≤ length (now text) ⌝ }
-    ensures { λ r. ⌜ Counts r (now (text .exit)) ⌝ }
-{
-    if n % 2 != 0 {
-        return 0;
-    }
-    let mut i: usize = 0;
-    while i < n / 2 {
-        let high = value(text[2 * i]);
-        let low = value(text[2 * i + 1]);
-        if 15 < high {
-            return 0;
-        }
-        if 15 < low {
-            return 0;
-        }
-        text[i] = 16 * high + low;
-        i += 1;
-    }
-    i
 }
 
 // Puts down the bits that a text has, low bit first, and answers how many. What is neither 0 nor 1 is skipped.
@@ -260,26 +220,14 @@ pub fn append_written(page: &mut [u8], text: &mut [u8], n: usize) -> Told
     append_frame(page, text[0], &text[1..m])
 }
 
-// A character of a text; a dot where the byte is none.
-fn shown(c: u8) -> u8 {
-    match c {
-        b' '..=b'~' => c,
-        _ => b'.',
-    }
-}
-
 // Data as text, on a line.
 fn append_text(page: &mut [u8], at: usize, data: &[u8]) -> usize
     requires { ⌜ at ≤ length (now page) ⌝ }
     ensures { λ r. ⌜ Counts r (now (page .exit)) ⌝ }
 {
-    let mut next = append(page, at, b"\ntext ");
-    let mut i: usize = 0;
-    while i < data.len() {
-        next = append(page, next, &[shown(data[i])]);
-        i += 1;
-    }
-    append(page, next, b"\n")
+    let a = append(page, at, b"\ntext ");
+    let b = append_shown(page, a, data);
+    append(page, b, b"\n")
 }
 
 // User number and length.

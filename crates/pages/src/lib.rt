@@ -6,6 +6,12 @@ ghost use Prim.Native.Nat.{_≤_};
 ghost use lib.ListN.{length};
 ghost use Rattle.io.specs.Counts.{Counts};
 
+// What came of it: where the words about it end, and whether it is good.
+pub struct Told {
+    pub end: usize,
+    pub good: bool,
+}
+
 // The text, or nothing where it does not fit.
 pub fn append(line: &mut [u8], at: usize, text: &[u8]) -> usize
     requires { ⌜ at ≤ length (now line) ⌝ }
@@ -119,4 +125,63 @@ pub fn append_bytes(line: &mut [u8], at: usize, bytes: &[u8]) -> usize
         i += 1;
     }
     next
+}
+
+// A character of a text; a dot where the byte is none.
+fn shown(c: u8) -> u8 {
+    match c {
+        b' '..=b'~' => c,
+        _ => b'.',
+    }
+}
+
+// Bytes as text, with a dot for each that is no character.
+pub fn append_shown(line: &mut [u8], at: usize, bytes: &[u8]) -> usize
+    requires { ⌜ at ≤ length (now line) ⌝ }
+    ensures { λ r. ⌜ Counts r (now (line .exit)) ⌝ }
+{
+    let mut next = at;
+    let mut i: usize = 0;
+    while i < bytes.len() {
+        next = append(line, next, &[shown(bytes[i])]);
+        i += 1;
+    }
+    next
+}
+
+// The number that a hexadecimal digit is; 16 for another character.
+fn value(c: u8) -> u8
+    ensures { λ r. ⌜ r ≤ 16 ⌝ }
+{
+    match c {
+        b'0'..=b'9' => c - b'0',
+        b'A'..=b'F' => c - b'A' + 10,
+        b'a'..=b'f' => c - b'a' + 10,
+        _ => 16,
+    }
+}
+
+// Puts the bytes that the first n characters have in hex down in their place, and answers how many; 0 where there is another
+// character, or half a byte.
+pub fn bytes_of(text: &mut [u8], n: usize) -> usize
+    requires { ⌜ n ≤ length (now text) ⌝ }
+    ensures { λ r. ⌜ Counts r (now (text .exit)) ⌝ }
+{
+    if n % 2 != 0 {
+        return 0;
+    }
+    let mut i: usize = 0;
+    while i < n / 2 {
+        let high = value(text[2 * i]);
+        let low = value(text[2 * i + 1]);
+        if 15 < high {
+            return 0;
+        }
+        if 15 < low {
+            return 0;
+        }
+        text[i] = 16 * high + low;
+        i += 1;
+    }
+    i
 }

@@ -1,5 +1,6 @@
 // The commands of ./hinet. A program has no status of its own: where its first argument is --status, it writes one
 // digit to descriptor 3 at its end. What cannot be read or written is told on standard error.
+mod boots;
 mod disks;
 mod words;
 
@@ -11,8 +12,8 @@ use params::CpmParameters;
 ghost use Prim.Native.Nat.{_<_};
 ghost use Rattle.io.specs.Counts.{Counts};
 
-// The statuses, as digits: all is good, a file breaks a rule, wrong use, something could not be read or written. Of two
-// the larger counts.
+// The statuses, as digits: all is good, a file breaks a rule or nothing can be loaded, wrong use, something could not be read
+// or written. Of two the larger counts.
 const GOOD: u8 = b'0';
 
 const BROKEN: u8 = b'1';
@@ -256,6 +257,9 @@ fn run(i: usize, count: usize) -> u8 {
     }
     if rows::is_same(&word[..n], b"line") {
         return line(i, count);
+    }
+    if rows::is_same(&word[..n], b"boot") {
+        return boots::run(i, count);
     }
     misused(b"unknown command: ", &word[..n])
 }

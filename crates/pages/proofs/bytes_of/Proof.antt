@@ -4,8 +4,8 @@ use lib.ListN.{length, length-set}
 use Rattle.pages.proofs.PageLaws.{counted}
 use borrow.Author.Needs.{needs}
 use native.Mathlib.Omega.{arith}
-use Rattle.pages.proofs.frame.bytes_of.Statement.{statement}
-use Rattle.pages.proofs.frame.bytes_of.Tie as tie
+use Rattle.pages.proofs.bytes_of.Statement.{statement}
+use Rattle.pages.proofs.bytes_of.Tie as tie
 
 abbrev Inv-loop : tie.InvT-loop
 Inv-loop text₀ n i₀ text i = (i ≤ n / 2) × (length text ≡ length text₀)
