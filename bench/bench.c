@@ -47,6 +47,9 @@ struct side {
     uint64_t (*station_reply)(uint8_t *, size_t, uint32_t);
     uint64_t (*line_write)(uint8_t, const uint8_t *, size_t, uint8_t *, size_t);
     uint64_t (*line_read)(const uint8_t *, size_t, size_t, uint8_t *, size_t);
+    uint64_t (*boot)(const uint8_t *, const uint8_t *, const uint8_t *, const uint8_t *, size_t,
+                     const uint8_t *, size_t, const uint8_t *, size_t, const uint8_t *, size_t,
+                     const uint8_t *, size_t, const uint8_t *, size_t, uint8_t *, size_t);
 };
 
 /* The place by plain numbers, as the reference has it. */
@@ -60,23 +63,26 @@ static uint64_t library_place(uint32_t volume, uint32_t partition, uint32_t trac
 static const struct side library = {
     "lib", hinet_check_tables, hinet_check_site, hinet_frame, library_place, hinet_due, hinet_poll,
     hinet_station_fresh, hinet_station_lock, hinet_station_unlock, hinet_station_clear,
-    hinet_station_frame, hinet_station_reply, hinet_line_write, hinet_line_read
+    hinet_station_frame, hinet_station_reply, hinet_line_write, hinet_line_read,
+    hinet_boot
 };
 static const struct side reference = {
     "ref", ref_check_tables, ref_check_site, ref_frame, ref_place, ref_due, ref_poll,
     ref_station_fresh, ref_station_lock, ref_station_unlock, ref_station_clear,
-    ref_station_frame, ref_station_reply, plain_line_write, plain_line_read
+    ref_station_frame, ref_station_reply, plain_line_write, plain_line_read,
+    ref_boot
 };
 
 /* ---- the cases ---- */
 
 static struct inputs inputs;
-static uint8_t locks[LOCKS], stations[STATIONS], state[STATE_LEN], line[LINE_MOST];
+static uint8_t locks[LOCKS], stations[STATIONS], state[STATE_LEN];
+static uint8_t written[LINE_MOST];  /* bits, data, or a block */
 
 enum what {
     NOTHING, CHECK_TABLES, CHECK_SITE, PLACE, FRAME, LOGIN_AGAIN, LOGIN_OTHER, DUE, POLL,
     STATION_FRESH, STATION_LOCK, STATION_UNLOCK, STATION_CLEAR, STATION_FRAME, STATION_REPLY,
-    WRITE_SHORT, WRITE_LONG, READ_SHORT, READ_LONG
+    WRITE_SHORT, WRITE_LONG, READ_SHORT, READ_LONG, BOOT
 };
 
 struct bench_case {
@@ -124,14 +130,21 @@ static const struct bench_case cases[] = {
     { "line-write-20", WRITE_SHORT, &inputs.empty, 0, &inputs.idle_empty },
     { "line-write-1024", WRITE_LONG, &inputs.empty, 0, &inputs.idle_empty },
     { "line-read-20", READ_SHORT, &inputs.empty, 0, &inputs.idle_empty },
-    { "line-read-1024", READ_LONG, &inputs.empty, 0, &inputs.idle_empty }
+    { "line-read-1024", READ_LONG, &inputs.empty, 0, &inputs.idle_empty },
+    { "boot", BOOT, &inputs.empty, 0, &inputs.idle_empty }
 };
 enum { CASES = sizeof cases / sizeof *cases };
 
 /* Does a case have inputs in a shape? */
 static int in_shape(const struct bench_case *c, unsigned shape)
 {
-    return c->what == NOTHING || (c->what >= WRITE_SHORT) == (shapes[shape].goal == ON_LINE);
+    if (c->what == NOTHING)
+        return 1;
+    switch (shapes[shape].goal) {
+    case ON_LINE: return c->what >= WRITE_SHORT && c->what <= READ_LONG;
+    case AT_BOOT: return c->what == BOOT;
+    default:      return c->what < WRITE_SHORT;
+    }
 }
 
 /* The number polled: the last station on full tables, else the only one. */
@@ -218,8 +231,21 @@ static uint64_t call_line(const struct side *side, const struct bench_case *c)
     const struct on_line *l =
         c->what == WRITE_SHORT || c->what == READ_SHORT ? &inputs.short_line : &inputs.long_line;
     if (c->what == WRITE_SHORT || c->what == WRITE_LONG)
-        return side->line_write(1, l->data, l->data_len, line, LINE_MOST);
-    return side->line_read(l->bits, LINE_MOST, l->count, line, DATA_MOST);
+        return side->line_write(1, l->data, l->data_len, written, LINE_MOST);
+    return side->line_read(l->bits, LINE_MOST, l->count, written, DATA_MOST);
+}
+
+static uint64_t call_boot(const struct side *side)
+{
+    const struct boot *boot = &inputs.boot;
+    return side->boot(boot->serial, boot->name, boot->password,
+                      boot->bytes[BOOT_MACHINES], boot->len[BOOT_MACHINES],
+                      boot->bytes[BOOT_PRODUCTS], boot->len[BOOT_PRODUCTS],
+                      boot->bytes[BOOT_USERS], boot->len[BOOT_USERS],
+                      boot->bytes[BOOT_CONFIGURATIONS], boot->len[BOOT_CONFIGURATIONS],
+                      boot->bytes[BOOT_SYSTEMS], boot->len[BOOT_SYSTEMS],
+                      boot->bytes[BOOT_DIRECTORY], boot->len[BOOT_DIRECTORY],
+                      written, BLOCK);
 }
 
 static uint64_t call_once(const struct side *side, const struct bench_case *c,
@@ -246,6 +272,7 @@ static uint64_t call_once(const struct side *side, const struct bench_case *c,
     case WRITE_LONG:
     case READ_SHORT:
     case READ_LONG:    return call_line(side, c);
+    case BOOT:         return call_boot(side);
     default:           return call_station(side, c);
     }
 }
@@ -306,18 +333,18 @@ static void time_case(const struct bench_case *c, double *lib, double *ref)
 /* Both sides answer the same and leave the same. */
 static int same_outcome(const struct bench_case *c)
 {
-    static uint8_t left[LOCKS + STATIONS + STATE_LEN], left_line[LINE_MOST];
+    static uint8_t left[LOCKS + STATIONS + STATE_LEN], left_written[LINE_MOST];
     struct frame frame;
     frame_of(c, &frame);
-    memset(line, 0xEE, LINE_MOST);
+    memset(written, 0xEE, LINE_MOST);
     uint64_t answer = call_once(&library, c, &frame);
     memcpy(left, locks, LOCKS);
     memcpy(left + LOCKS, stations, STATIONS);
     memcpy(left + LOCKS + STATIONS, state, STATE_LEN);
-    memcpy(left_line, line, LINE_MOST);
-    memset(line, 0xEE, LINE_MOST);
+    memcpy(left_written, written, LINE_MOST);
+    memset(written, 0xEE, LINE_MOST);
     return answer == call_once(&reference, c, &frame)
-        && memcmp(left_line, line, LINE_MOST) == 0
+        && memcmp(left_written, written, LINE_MOST) == 0
         && memcmp(left, locks, LOCKS) == 0
         && memcmp(left + LOCKS, stations, STATIONS) == 0
         && memcmp(left + LOCKS + STATIONS, state, STATE_LEN) == 0;
@@ -326,7 +353,9 @@ static int same_outcome(const struct bench_case *c)
 /* The goal of a shape, in a word. */
 static const char *goal_of(unsigned shape)
 {
-    static const char *const goals[] = { "in-order", "random", "colliding", "on-line" };
+    static const char *const goals[] = {
+        "in-order", "random", "colliding", "on-line", "at-boot"
+    };
     return goals[shapes[shape].goal];
 }
 

@@ -45,11 +45,22 @@ const struct shape shapes[SHAPES] = {
     { "FF", ON_LINE },
     { "1F", ON_LINE },
     { "padded-mixed", IN_ORDER },
-    { "hash-padded-mixed", COLLIDING }
+    { "hash-padded-mixed", COLLIDING },
+    { "workshop", AT_BOOT },
+    { "exact-last", AT_BOOT },
+    { "options-last", AT_BOOT },
+    { "smallest-last", AT_BOOT },
+    { "small-last", AT_BOOT },
+    { "menu", AT_BOOT },
+    { "nobody", AT_BOOT },
+    { "password", AT_BOOT },
+    { "any-full", AT_BOOT },
+    { "any-small", AT_BOOT }
 };
 
-/* The first shape on the line, and the first of those with keys that came after. */
-enum { FIRST_ON_LINE = 9, FIRST_PADDED = 14 };
+/* The first shape on the line, the first of those with keys that came after, and
+ * the first at boot (shapes_boot.c). */
+enum { FIRST_ON_LINE = 9, FIRST_PADDED = 14, FIRST_AT_BOOT = 16 };
 
 static const struct {
     enum keys keys;
@@ -311,6 +322,10 @@ void shape_inputs(unsigned i, struct inputs *inputs)
     if (shapes[i].goal == ON_LINE) {
         make_line(&rng, (enum fill)(i - FIRST_ON_LINE), &inputs->short_line, 20);
         make_line(&rng, (enum fill)(i - FIRST_ON_LINE), &inputs->long_line, DATA_MOST);
+        return;
+    }
+    if (shapes[i].goal == AT_BOOT) {
+        boot_shape(&rng, i - FIRST_AT_BOOT, &inputs->boot);
         return;
     }
     make_site(&rng, &inputs->site, made[i].keys, made[i].rows);
