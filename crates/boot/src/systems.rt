@@ -6,7 +6,7 @@ ghost use lib.ListN.{length};
 ghost use Rattle.rows.specs.Words.{first, smallest};
 ghost use Rattle.rows.specs.Numbers.{lowFirst, bitAt};
 ghost use Rattle.boot.specs.Tables.{sevenBits};
-ghost use Rattle.boot.specs.Systems.{systemRows, osFits, loadList, suits, fits as fitsAt, systemSize, fitsExactly};
+ghost use Rattle.boot.specs.Systems.{systemRows, osFits, firstName, loadList, suits, fits as fitsAt, systemSize, fitsExactly};
 ghost use Rattle.boot.specs.Inner.{weight, smallestPick, pickOf};
 
 // Larger than the length of any file.
@@ -53,6 +53,14 @@ fn is_suited(systems: &[u8], i: usize, wanted: u8, product: u8) -> bool
     in_map(rows::part(systems, at + 1, 16), product)
 }
 
+// The first name in the load list of system i.
+fn first_name(systems: &[u8], i: usize) -> &[u8]
+    requires { ⌜ i < systemRows (now systems) ⌝ }
+    ensures { λ r. ⌜ (now r ≡ firstName (now (systems .entry)) i) × (length (now r) ≡ 8) ⌝ }
+{
+    rows::part(systems, tables::SYSTEM * i + 23, directory::NAME)
+}
+
 // System i fits: it is suited, and its first name is in the directory.
 fn fits(systems: &[u8], directory: &[u8], i: usize, wanted: u8, product: u8) -> bool
     requires { ⌜ i < systemRows (now systems) ⌝ }
@@ -61,10 +69,7 @@ fn fits(systems: &[u8], directory: &[u8], i: usize, wanted: u8, product: u8) -> 
     if !is_suited(systems, i, wanted, product) {
         return false;
     }
-    directory::is_there(
-        directory,
-        rows::part(systems, tables::SYSTEM * i + 23, directory::NAME),
-    )
+    directory::is_there(directory, first_name(systems, i))
 }
 
 // System i fits, and its option map is this one.
@@ -108,8 +113,7 @@ fn weigh(systems: &[u8], directory: &[u8], i: usize, wanted: u8, product: u8) ->
     if !is_suited(systems, i, wanted, product) {
         return NONE;
     }
-    let name = rows::part(systems, tables::SYSTEM * i + 23, directory::NAME);
-    let file = directory::find(directory, name);
+    let file = directory::find(directory, first_name(systems, i));
     if directory::count(directory) <= file {
         return NONE;
     }

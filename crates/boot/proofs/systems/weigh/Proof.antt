@@ -1,12 +1,9 @@
-use Rattle.boot.specs.Systems.{systemRows, firstName, fits, systemSize}
+use Rattle.boot.specs.Systems.{fits, systemSize}
 use Rattle.boot.specs.Inner.{weight}
 use Rattle.directory.specs.Directory.{fileOf}
 use Rattle.directory.proofs.FileLaws.{found-there}
 use Rattle.rows.proofs.BoolLaws.{passed, refused}
-use Rattle.rows.proofs.RowLaws.{length-part}
-use native.Mathlib.Omega.{arith}
 use mathlib.Core.Path.{sym, ap, _∙_}
-use lib.ListN.{length}
 use borrow.Author.Tests.{lt-ltb, le-ltb}
 use borrow.Author.Needs.{needs}
 use denote.Ref.{now}
@@ -17,44 +14,28 @@ returns : tie.Need-returns
 unfolding weight fits
 returns c = rw (refused (c .before .is-suited .ensures) (c .if1 .taken))
 
-mul-part : tie.Need-mul-part
-unfolding systemRows
-mul-part c = omega (arith, c .before .before .before .before .pre)
-
-add-part : tie.Need-add-part
-unfolding systemRows
-add-part c = omega (arith, c .before .before .before .before .pre)
-
-part-requires : tie.Need-part-requires
-unfolding systemRows
-part-requires c κs = omega (arith, c .before .before .before .before .pre)
-
-find-requires : tie.Need-find-requires
-unfolding systemRows
-find-requires c κs = ap length (c .part .ensures) ∙ length-part _ _ 8 (omega (arith, c .before .before .before .before .before .pre))
-
 returns-2 : tie.Need-returns-2
-unfolding weight fits firstName
+unfolding weight fits
 returns-2 c =
     let found = c .before .before in
     let named = found .before in
     let test = named .before in
     let a = test .before .before .before .before .args in
-    let is = found .find .ensures ∙ ap (fileOf (now (a .directory))) (named .part .ensures) in
+    let is = found .find .ensures ∙ ap (fileOf (now (a .directory))) (named .first-name .ensures .0) in
     rw (passed (test .before .is-suited .ensures) (test .if1 .left), sym (found-there _ _) ∙ le-ltb _ _ (rw (is, c .before .count .ensures) at (c .if2 .taken)))
 
 length-of-requires : tie.Need-length-of-requires
 length-of-requires c κs = rw (sym (c .before .count .ensures)) (c .if2 .left)
 
 returns-3 : tie.Need-returns-3
-unfolding weight fits systemSize firstName
+unfolding weight fits systemSize
 returns-3 c =
     let second = c .before in
     let found = second .before .before in
     let named = found .before in
     let test = named .before in
     let a = test .before .before .before .before .args in
-    let is = found .find .ensures ∙ ap (fileOf (now (a .directory))) (named .part .ensures) in
+    let is = found .find .ensures ∙ ap (fileOf (now (a .directory))) (named .first-name .ensures .0) in
     rw (passed (test .before .is-suited .ensures) (test .if1 .left), sym (found-there _ _) ∙ lt-ltb _ _ (rw (is, second .before .count .ensures) at (second .if2 .left))) (rw is at (c .length-of .ensures))
 
 pub weigh-spec : {M : Type 1} → statement M
@@ -63,10 +44,8 @@ weigh-spec =
     (tie.spec
     (λ c κs. search needs)
     returns
-    mul-part
-    add-part
-    part-requires
-    find-requires
+    (λ c κs. search needs)
+    (λ c κs. c .first-name .ensures .1)
     (λ c κs. search needs)
     returns-2
     length-of-requires
