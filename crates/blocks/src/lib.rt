@@ -1,5 +1,7 @@
 // Boot Phase 2's data block, as a person reads it: four drives, IOBYTE, type-ahead, honor flag and eight load entries, each
 // told with the name that the directory has for it. What stands in the block, the crate that chose it alone says.
+#![tactic(auto)]
+
 ghost use Rattle.std.specs.Prelude.{◌+◌, ◌≤◌, ◌<◌, length};
 ghost use Rattle.io.specs.Counts.{IsPrefixLen};
 

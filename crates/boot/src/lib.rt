@@ -1,5 +1,7 @@
 // The system is chosen at login (02, Req 07): from 001's tables, a serial, a name and a password to an honor flag and the data
 // block of Boot Phase 2. The tables are lent as they stand on the disk.
+#![tactic(auto)]
+
 mod block;
 mod systems;
 mod tables;
@@ -18,7 +20,7 @@ use systems::Pick;
 pub const BLOCK: usize = 194;
 
 // What a login is answered: 23 or 13, or an honor flag.
-#[derive(Drop)]
+#[derive(Clone, Copy)]
 pub enum Booted {
     Refused(u8),
     Honors(u8),

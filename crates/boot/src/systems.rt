@@ -12,7 +12,7 @@ use crate::tables;
 const NONE: u32 = 65536;
 
 // The system that a user gets: 0 exactly, 1 the smallest, 3 none; and its row, the number of rows for none.
-#[derive(Drop)]
+#[derive(Clone, Copy)]
 pub struct Pick {
     pub flag: u8,
     pub row: usize,

@@ -1,5 +1,7 @@
 // The system directory of 001 (specs/Directory.antt): rows of 24 bytes, a row a file. Whoever loads a file, or moves it, looks
 // for its row here.
+#![tactic(auto)]
+
 ghost use Rattle.std.specs.Prelude.{◌≡◌, ◌<◌, length};
 ghost use Rattle.directory.specs.Directory.{files, file_length, file_entry, file_of, in_directory};
 

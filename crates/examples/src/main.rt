@@ -2,6 +2,8 @@
 // marked ones are proved (specs/Marked.antt).
 
 // One partition: ARCHIVE1, password SECRET, volume 1, partition 0, size 1, control 5, first sector 2048.
+#![tactic(auto)]
+
 const SITE: [u8; 32] = *b"\0\0\x08\0\x01\0\x08\0ARCHIVE1SECRET\x01\0\x01\x05\0\x08\0\0\0\0";
 
 const EMPTY: [u8; 8] = *b"\0\0\x08\0\0\0\x08\0";

@@ -1,10 +1,12 @@
 // Reading by file descriptor into lent bytes. What cannot be read is told on standard error, under the name that the caller
 // gives it.
+#![tactic(auto)]
+
 ghost use Rattle.std.specs.Prelude.{◌≡◌, ◌≤◌, ◌<◌, length, take};
 ghost use Rattle.io.specs.Counts.{IsPrefixLen};
 
 // After a read: where what was read then ends, and whether it could not be read.
-#[derive(Drop)]
+#[derive(Clone, Copy)]
 pub struct Reach {
     pub end: usize,
     pub failed: bool,

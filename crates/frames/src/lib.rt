@@ -1,5 +1,7 @@
 // Request frames: the data part that a station sends, without user number, check or flags. Reading takes any bytes,
 // writing any request and any buffer; each answers with the refusal number, 0 for none.
+#![tactic(auto)]
+
 pub mod code;
 mod compose;
 mod parse;
@@ -13,7 +15,7 @@ pub use parse::plain;
 use terms::{Address, LockString};
 
 // A command with its plain numbers. `src` is the source station number.
-#[derive(Drop)]
+#[derive(Clone, Copy)]
 pub enum Command {
     Acknowledge,
     Read { src: u8, address: Address },
@@ -28,7 +30,7 @@ pub enum Command {
 
 // A command with its byte fields beside it. Those that the command does not carry are no part of the request: they are
 // zero when read and are not written.
-#[derive(Drop)]
+#[derive(Clone, Copy)]
 pub struct Request {
     pub command: Command,
     pub name: [u8; 8],
@@ -38,14 +40,14 @@ pub struct Request {
 }
 
 // What reading gives: a refusal and nothing of a request, or 0 and the request.
-#[derive(Drop)]
+#[derive(Clone, Copy)]
 pub struct Reading {
     pub refusal: u8,
     pub request: Request,
 }
 
 // What writing gives: a refusal and 0, or 0 and the length of the frame.
-#[derive(Drop)]
+#[derive(Clone, Copy)]
 pub struct Written {
     pub refusal: u8,
     pub length: usize,

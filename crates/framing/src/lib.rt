@@ -1,5 +1,7 @@
 // The SDLC frame in software (02, Req 04): user number, data, frame check, a zero after five ones, two flags before and two
 // after; bits in bytes, low bit first.
+#![tactic(auto)]
+
 mod fcs;
 mod receive;
 mod send;
@@ -21,7 +23,7 @@ const GOOD: u16 = 0xf0b8;
 const MOST: usize = 1027;
 
 // What writing is answered.
-#[derive(Drop)]
+#[derive(Clone, Copy)]
 pub enum Written {
     Refused(u8),
     // How many bits the frame has.
@@ -29,7 +31,7 @@ pub enum Written {
 }
 
 // What reading is answered.
-#[derive(Drop)]
+#[derive(Clone, Copy)]
 pub enum Reading {
     Refused(u8),
     // The length is that of the data.
@@ -37,7 +39,7 @@ pub enum Reading {
 }
 
 // What stands on the line: a refusal, or where the content stands and how many of its bytes are data.
-#[derive(Drop)]
+#[derive(Clone, Copy)]
 pub enum Content {
     Refused(u8),
     Between {

@@ -7,7 +7,7 @@ ghost use Rattle.framing.specs.Inner.{taken_table, Passes, scan_of, Within};
 use crate::{take, zeros};
 
 // Where the search stopped.
-#[derive(Drop)]
+#[derive(Clone, Copy)]
 pub enum Found {
     Ended,
     Seven,
@@ -16,7 +16,7 @@ pub enum Found {
 }
 
 // A place, and how many ones stand before it.
-#[derive(Drop)]
+#[derive(Clone, Copy)]
 pub struct Passed {
     pub at: usize,
     pub ones: usize,

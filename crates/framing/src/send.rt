@@ -10,7 +10,7 @@ use crate::zeros;
 use crate::zeros::Run;
 
 // How many bytes are written; bits that do not fill a byte yet, and how many; how many ones were sent last.
-#[derive(Drop)]
+#[derive(Clone, Copy)]
 pub struct Pen {
     pub at: usize,
     pub acc: u32,
@@ -19,7 +19,7 @@ pub struct Pen {
 }
 
 // Bits counted, and how many ones stand last.
-#[derive(Drop)]
+#[derive(Clone, Copy)]
 pub struct Tally {
     pub bits: usize,
     pub ones: usize,

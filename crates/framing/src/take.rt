@@ -8,7 +8,7 @@ use crate::zeros::Taken;
 use crate::{fcs, zeros};
 
 // The place of the next bit, and how many ones stand before it; bits in hand, and how many.
-#[derive(Drop)]
+#[derive(Clone, Copy)]
 pub struct Taker {
     pub at: usize,
     pub ones: usize,
@@ -17,7 +17,7 @@ pub struct Taker {
 }
 
 // Whole bytes, their register, and how many bits are left.
-#[derive(Drop)]
+#[derive(Clone, Copy)]
 pub struct Summed {
     pub bytes: usize,
     pub left: usize,

@@ -5,7 +5,7 @@ ghost use Rattle.framing.specs.Bits.{bits_of};
 ghost use Rattle.framing.specs.Inner.{put_table, taken_table, PutIn, TakenOut};
 
 // Bits, how many they are, and how many ones then stand last.
-#[derive(Drop)]
+#[derive(Clone, Copy)]
 pub struct Run {
     pub bits: u32,
     pub count: usize,
@@ -13,7 +13,7 @@ pub struct Run {
 }
 
 // The same of bits whose zeros are taken out, and how many of those were ones.
-#[derive(Drop)]
+#[derive(Clone, Copy)]
 pub struct Taken {
     pub bits: u32,
     pub count: usize,

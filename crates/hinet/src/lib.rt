@@ -2,6 +2,8 @@
 // the proved library and takes any input. A number that is too large for what it means is refused and never cut to a byte.
 // Here stand the master's; those that write and read one frame stand in requests.rt, the station's in station_end.rt, those
 // that write disk parameters in parameters.rt, those of the line in line.rt, the one that chooses a system in booting.rt.
+#![tactic(auto)]
+
 mod booting;
 mod given;
 mod line;

@@ -1,4 +1,6 @@
 // The text of a session line, put down in lent bytes. specs/Line.antt says what it is.
+#![tactic(auto)]
+
 ghost use Rattle.std.specs.Prelude.{◌≡◌, [], ◌∷◌, ◌++◌, ◌+◌, ◌≤◌, ◌<◌, length, drop};
 ghost use Rattle.master.specs.Answers.{told, refusal_number};
 ghost use Rattle.lines.specs.Line.{digit as digit_of, decimal, hex_byte, yes_or_no, answer_text, column, columns, line_text, COLON, ROOM, Writes};
@@ -7,7 +9,7 @@ use master::Answer;
 use terms::{Partition, Place, Volume};
 
 // The digits of a number: they end with the last byte and begin at `first`.
-#[derive(Drop)]
+#[derive(Clone, Copy)]
 struct Digits {
     bytes: [u8; 20],
     first: usize,

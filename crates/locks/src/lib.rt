@@ -1,4 +1,6 @@
 // The lock table: rows of 16 lent bytes, as many as the slice has. Owner, length, 13 string bytes, spare; owner FF is free.
+#![tactic(auto)]
+
 mod row;
 mod rules;
 

@@ -1,5 +1,7 @@
 // The master's entries: fresh tables, the check of the tables, one frame and one poll turn; one frame from the line stands in
 // line.rt. The tables are lent; an answer is an enum by value, and `told` (specs/Answers.antt) says what it tells.
+#![tactic(auto)]
+
 mod commands;
 pub mod line;
 mod poll;
@@ -19,7 +21,7 @@ use site::{Checked, Fault};
 use terms::{Partition, Place, Volume};
 use who::Station;
 
-#[derive(Drop)]
+#[derive(Clone, Copy)]
 pub enum Answer {
     Refused(u8),
     Faulty(Fault),
@@ -40,21 +42,21 @@ pub enum Answer {
 }
 
 // What a frame from the line is answered: another's by its user number and length, or as a frame is, refused or served.
-#[derive(Drop)]
+#[derive(Clone, Copy)]
 pub enum Received {
     Another { user: u8, length: u16 },
     Answered(Answer),
 }
 
 // What a poll turn is answered: was it due, did it end in a logout.
-#[derive(Drop)]
+#[derive(Clone, Copy)]
 pub enum Turned {
     Refused(u8),
     Turn { due: bool, out: bool },
 }
 
 // What one record becomes in a poll turn, and the answer to it.
-#[derive(Drop)]
+#[derive(Clone, Copy)]
 pub struct Step {
     pub next: Station,
     pub answer: Turned,

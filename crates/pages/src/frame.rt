@@ -32,7 +32,7 @@ const DATA: usize = 2;
 const CHECK: usize = 3;
 
 // Where a walk over bits stands: the next bit, and how many ones stand before it.
-#[derive(Drop)]
+#[derive(Clone, Copy)]
 struct Walk {
     place: usize,
     ones: usize,

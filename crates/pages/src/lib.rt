@@ -1,12 +1,14 @@
 // Text put together in lent bytes, so that a line or a page is written at once. Each function puts its text down behind the
 // first `at` bytes and answers where it ends.
+#![tactic(auto)]
+
 pub mod frame;
 
 ghost use Rattle.std.specs.Prelude.{◌≤◌, length};
 ghost use Rattle.io.specs.Counts.{IsPrefixLen};
 
 // What came of it: where the words about it end, and whether it is good.
-#[derive(Drop)]
+#[derive(Clone, Copy)]
 pub struct Told {
     pub end: usize,
     pub good: bool,

@@ -6,7 +6,7 @@ ghost use Rattle.params.specs.Blocks.{cpm_block, cpm_bytes};
 use crate::{CpmBlock, high, low, row_of};
 
 // SPT, BSH, BLM, EXM, DSM, DRM, AL0, AL1, CKS, OFF.
-#[derive(Drop)]
+#[derive(Clone, Copy)]
 struct CpmRow(u16, u8, u8, u8, u16, u16, u8, u8, u16, u16);
 
 const TABLE: [CpmRow; 6] = [

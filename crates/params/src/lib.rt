@@ -1,5 +1,7 @@
 // Disk parameters for each size code (02, Req 03): CP/M 2.2's disk parameter block, and MS-DOS 2.0's parameter block up to
 // sectors per track, each as a record and as 15 bytes. Both come from a constant table with a row for each size code.
+#![tactic(auto)]
+
 mod cpm;
 mod msdos;
 
@@ -13,7 +15,7 @@ ghost use Rattle.params.specs.Answers.{cpm_parameters, msdos_parameters, room_re
 pub const BYTES: usize = 15;
 
 // CP/M 2.2's disk parameter block.
-#[derive(Drop)]
+#[derive(Clone, Copy)]
 pub struct CpmBlock {
     pub spt: u16,
     pub bsh: u8,
@@ -28,7 +30,7 @@ pub struct CpmBlock {
 }
 
 // MS-DOS 2.0's parameter block up to sectors per track.
-#[derive(Drop)]
+#[derive(Clone, Copy)]
 pub struct MsdosBlock {
     pub bytes_per_sector: u16,
     pub sectors_per_cluster: u8,
@@ -42,20 +44,20 @@ pub struct MsdosBlock {
 }
 
 // The systems that have a block.
-#[derive(Drop)]
+#[derive(Clone, Copy)]
 pub enum System {
     Cpm,
     Msdos,
 }
 
 // What a size code is answered: 16, or its block.
-#[derive(Drop)]
+#[derive(Clone, Copy)]
 pub enum CpmParameters {
     Refused(u8),
     Given(CpmBlock),
 }
 
-#[derive(Drop)]
+#[derive(Clone, Copy)]
 pub enum MsdosParameters {
     Refused(u8),
     Given(MsdosBlock),

@@ -7,7 +7,7 @@ use crate::{MsdosBlock, high, low, row_of};
 
 // Bytes per sector, sectors per cluster, reserved sectors, FATs, root entries, sectors, media, sectors per FAT, sectors per
 // track.
-#[derive(Drop)]
+#[derive(Clone, Copy)]
 struct MsdosRow(u16, u8, u16, u8, u16, u16, u8, u16, u16);
 
 const TABLE: [MsdosRow; 6] = [

@@ -1,5 +1,7 @@
 // Rows of fixed width in lent bytes: the words that the other crates' rules are written in (specs/), the laws of those
 // words (proofs/), and the few functions that read and write a part. No function here knows what the bytes mean.
+#![tactic(auto)]
+
 pub mod marks;
 
 ghost use Rattle.std.specs.Prelude.{◌≡◌, ◌+◌, ◌*◌, ◌≤◌, ◌<◌, length};
@@ -22,7 +24,7 @@ pub fn put(s: &mut [u8], at: usize, p: &[u8])
     ensures { s.new ≡ put_in s.old at p.now }
 {
     let end = at + p.len();
-    bytes::copy(p, &mut s[at..end]);
+    s[at..end].copy_from_slice(p);
 }
 
 // Moves the n bytes at `from` down to `to`, one by one.
@@ -211,7 +213,7 @@ pub fn four_of(s: &[u8], at: usize) -> [u8; 4]
     ensures { result ≡ part_of s.now at 4 }
 {
     let mut r = [0u8; 4];
-    bytes::copy(part(s, at, 4), &mut r);
+    r.copy_from_slice(part(s, at, 4));
     r
 }
 
@@ -220,7 +222,7 @@ pub fn six_of(s: &[u8], at: usize) -> [u8; 6]
     ensures { result ≡ part_of s.now at 6 }
 {
     let mut r = [0u8; 6];
-    bytes::copy(part(s, at, 6), &mut r);
+    r.copy_from_slice(part(s, at, 6));
     r
 }
 
@@ -229,7 +231,7 @@ pub fn eight_of(s: &[u8], at: usize) -> [u8; 8]
     ensures { result ≡ part_of s.now at 8 }
 {
     let mut r = [0u8; 8];
-    bytes::copy(part(s, at, 8), &mut r);
+    r.copy_from_slice(part(s, at, 8));
     r
 }
 
@@ -238,6 +240,6 @@ pub fn thirteen_of(s: &[u8], at: usize) -> [u8; 13]
     ensures { result ≡ part_of s.now at 13 }
 {
     let mut r = [0u8; 13];
-    bytes::copy(part(s, at, 13), &mut r);
+    r.copy_from_slice(part(s, at, 13));
     r
 }

@@ -5,7 +5,7 @@ ghost use Rattle.session.specs.Records.{whole_size};
 ghost use Rattle.session.specs.Session.{Adds, Plays};
 
 // What was played of a block: its bytes up to `at`; the index of the next record; the bytes that its lines take.
-#[derive(Drop)]
+#[derive(Clone, Copy)]
 pub struct Played {
     pub at: usize,
     pub index: u64,

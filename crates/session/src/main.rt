@@ -1,6 +1,8 @@
 // Plays a session: the site file site.bin, records from standard input, and a line of text for each. The input comes in
 // blocks; what a block holds of a record that is not whole is kept for the next one. What cannot be read or written is
 // told on standard error.
+#![tactic(auto)]
+
 mod block;
 
 ghost use Rattle.std.specs.Prelude.{◌≡◌, true, ◌+◌, ◌*◌, ◌^◌, ◌≤◌, ◌<◌, length};
@@ -13,7 +15,7 @@ use libc::{STDIN_FILENO, STDOUT_FILENO};
 const TURNS: u64 = 1125899906842624;
 
 // After a block: what is kept of the input, the index of the next record, and whether there is more to do.
-#[derive(Drop)]
+#[derive(Clone, Copy)]
 struct Turn {
     kept: usize,
     index: u64,

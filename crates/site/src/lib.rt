@@ -1,5 +1,7 @@
 // The site file: its check, what is looked up in it, and the place of an address. The file is lent and never copied.
 // `check`, `is_good` and `place` take any bytes. The others are inner halves: they rely on what `check` gave for the file.
+#![tactic(auto)]
+
 mod hashes;
 mod layout;
 mod order;
@@ -24,7 +26,7 @@ use terms::{Address, Partition, Place, Volume};
 pub const ROOM: usize = 3593;
 
 // A partition row without its name and password.
-#[derive(Drop)]
+#[derive(Clone, Copy)]
 pub struct PartitionRow {
     pub volume: Volume,
     pub partition: Partition,
@@ -34,7 +36,7 @@ pub struct PartitionRow {
 }
 
 // What is wrong with a row: a range, a repeated name, a repeated volume and number, an overlap.
-#[derive(Drop)]
+#[derive(Clone, Copy)]
 pub enum Breach {
     Range,
     Name,
@@ -43,7 +45,7 @@ pub enum Breach {
 }
 
 // A fault of a file: in its header, in a user row or in a partition row, by the row's index.
-#[derive(Drop)]
+#[derive(Clone, Copy)]
 pub enum Fault {
     InHeader,
     InUser(u8),
@@ -51,21 +53,21 @@ pub enum Fault {
 }
 
 // What the check of a file gives: it is good, or its first fault.
-#[derive(Drop)]
+#[derive(Clone, Copy)]
 pub enum Checked {
     Good,
     Faulty(Fault),
 }
 
 // A refusal and no place, or 0 and the place.
-#[derive(Drop)]
+#[derive(Clone, Copy)]
 pub struct Placed {
     pub refusal: u8,
     pub place: Place,
 }
 
 // What the place of an address is answered in any file: the file's first fault, or the place and its refusals.
-#[derive(Drop)]
+#[derive(Clone, Copy)]
 pub enum Located {
     Faulty(Fault),
     At(Placed),

@@ -150,7 +150,7 @@ fn first_unsound(file: &[u8], from: usize, n: usize) -> usize
 
 // The partition rows, and how many of them are left after each rule: those before the first that breaks it or a rule
 // before it.
-#[derive(Drop)]
+#[derive(Clone, Copy)]
 struct Left {
     rows: usize,
     ranged: usize,

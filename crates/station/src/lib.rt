@@ -1,5 +1,7 @@
 // The station's end of the lock exchange: its list of locks and its wait, in lent bytes. It asks one thing at a time, sends
 // that frame until a reply comes, and takes the reply. Each entry answers with the refusal number, 0 for none.
+#![tactic(auto)]
+
 mod list;
 mod rules;
 
@@ -142,7 +144,7 @@ fn command_of(code: u8) -> Command
 }
 
 // What a station sends: a refusal and 0, or 0 and the length of the frame, 0 where nothing is awaited.
-#[derive(Drop)]
+#[derive(Clone, Copy)]
 pub struct Sent {
     pub refusal: u8,
     pub length: u8,

@@ -1,5 +1,7 @@
 // The terms of the rules as types. Volume, partition, track and sector are four types, so that none can be passed where
 // another is due. A lock string travels by value, as thirteen bytes beside its length.
+#![tactic(auto)]
+
 pub mod names;
 pub mod table;
 
@@ -9,20 +11,20 @@ ghost use Rattle.rows.specs.Rows.{put};
 ghost use Rattle.terms.specs.Strings.{legal, string_at, string_bytes, key, normal as normal_of};
 ghost use Rattle.terms.specs.Shortcuts.{string_hash};
 
-#[derive(Drop)]
+#[derive(Clone, Copy)]
 pub struct Volume(pub u8);
 
-#[derive(Drop)]
+#[derive(Clone, Copy)]
 pub struct Partition(pub u8);
 
-#[derive(Drop)]
+#[derive(Clone, Copy)]
 pub struct Track(pub u16);
 
-#[derive(Drop)]
+#[derive(Clone, Copy)]
 pub struct Sector(pub u8);
 
 // Where a station asks to read or write.
-#[derive(Drop)]
+#[derive(Clone, Copy)]
 pub struct Address {
     pub volume: Volume,
     pub partition: Partition,
@@ -31,13 +33,13 @@ pub struct Address {
 }
 
 // Where that is on the drive: a sector of the volume, counted from 0.
-#[derive(Drop)]
+#[derive(Clone, Copy)]
 pub struct Place {
     pub volume: Volume,
     pub sector: u32,
 }
 
-#[derive(Drop)]
+#[derive(Clone, Copy)]
 pub struct LockString {
     pub len: u8,
     pub bytes: [u8; 13],

@@ -14,7 +14,7 @@ pub fn solid_of(name: &[u8]) -> u64
 }
 
 // What a name is compared by: the number in its normal form, and the bits of another name that are to be those of that number.
-#[derive(Drop)]
+#[derive(Clone, Copy)]
 pub struct Pattern {
     pub word: u64,
     pub mask: u64,

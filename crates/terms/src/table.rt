@@ -9,7 +9,7 @@ ghost use Rattle.terms.specs.Shortcuts.{string_hash, row_has_key};
 use crate::LockString;
 
 // The width of a row, where in it the string stands, and the first byte of a free row.
-#[derive(Drop)]
+#[derive(Clone, Copy)]
 pub struct Shape {
     pub width: usize,
     pub string: usize,

@@ -10,7 +10,7 @@ use params::{CpmBlock, CpmParameters, MsdosBlock, MsdosParameters, System};
 pub const PAGE: usize = 4096;
 
 // The size codes of a table's columns: from the first up to, and without, the end.
-#[derive(Drop)]
+#[derive(Clone, Copy)]
 pub struct Sizes {
     pub first: u32,
     pub end: u32,

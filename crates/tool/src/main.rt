@@ -1,5 +1,7 @@
 // The commands of ./hinet. A program has no status of its own: where its first argument is --status, it writes one
 // digit to descriptor 3 at its end. What cannot be read or written is told on standard error.
+#![tactic(auto)]
+
 mod boots;
 mod disks;
 mod words;
@@ -31,7 +33,7 @@ const NAME: usize = 4095;
 const LINE: usize = 4295;
 
 // After a file: its status, and whether there is more to do.
-#[derive(Drop)]
+#[derive(Clone, Copy)]
 struct After {
     status: u8,
     more: bool,

@@ -16,14 +16,14 @@ const USER: u64 = 16;
 const PARTITION: u64 = 24;
 
 // What came of a check: where the words about it end, and whether the file is good.
-#[derive(Drop)]
+#[derive(Clone, Copy)]
 pub struct Verdict {
     pub end: usize,
     pub good: bool,
 }
 
 // The fields of a partition row that the rules say something of, but its name. The last two are its spare bytes.
-#[derive(Drop)]
+#[derive(Clone, Copy)]
 struct Fields {
     volume: u64,
     number: u64,

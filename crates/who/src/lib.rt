@@ -1,5 +1,7 @@
 // The login table: one record of 18 lent bytes for each user number. Who is logged in, the lowest free number, login and
 // logout, and the check of the records.
+#![tactic(auto)]
+
 pub mod lent;
 
 ghost use Rattle.std.specs.Prelude.{◌≡◌, ◌+◌, ◌*◌, ◌≤◌, length, true};
@@ -21,7 +23,7 @@ const NOBODY: [u8; 18] = [0, 0, 0, 0, 0, 0, 0, 0, 0, 0, 0, 0, 0, 0, 0, 0, 0, 0];
 const LOCAL_USER: [u8; 18] = [1, 0, 0, 0, 0, 0, 0, 0, 0, 0, 0, 0, 0, 0, 0, 0, 0, 0];
 
 // One station: the seven fields of its record.
-#[derive(Drop)]
+#[derive(Clone, Copy)]
 pub struct Station {
     pub logged: bool,
     pub misses: u16,
@@ -33,7 +35,7 @@ pub struct Station {
 }
 
 // Who of a row of records is logged in, as a word with bit n for number n. A row that breaks the rules has no good roll.
-#[derive(Drop)]
+#[derive(Clone, Copy)]
 pub struct Roll {
     pub good: bool,
     pub word: u64,
@@ -232,7 +234,7 @@ pub fn fresh(records: &mut [u8])
 }
 
 // What one poll turn does: was the station due, is it out, and its counts after the turn.
-#[derive(Drop)]
+#[derive(Clone, Copy)]
 pub struct Turn {
     pub due: bool,
     pub out: bool,
