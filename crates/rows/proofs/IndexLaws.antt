@@ -5,7 +5,7 @@ use native.Mathlib.Numerals.{add-one}
 use native.Mathlib.Omega.{arith}
 use mathlib.Core.Path.{◌≡◌, refl, sym, ap, ◌∙◌, subst}
 use mathlib.Core.Logic.{⊎_elim}
-use mathlib.Core.Bool.{Bool, true, false, not, ◌&&◌, ◌||◌, and-or_distrib_right, or_true, or-false}
+use mathlib.Core.Bool.{Bool, true, false, not, ◌&&◌, ◌||◌, and-or_distrib_right, or-true, or-false}
 use lib.Dec.{leb, ltb}
 use borrow.Author.Tests.{lt-ltb, le-ltb, le-leb, lt-leb, not-true, not-false}
 use Rattle.rows.proofs.BoolLaws.{by_test, by_eq, both, and_fails, and_both}
@@ -117,7 +117,7 @@ module _ (p q : ℕ → Bool) where
   -- where they differ at k alone, at which p fails
   pub any_set : (n k : ℕ) → k < n → p k ≡ false → ((i : ℕ) → i < n → (i ≡ k → ⊥) → q i ≡ p i) → any q n ≡ (any p n || q k)
   any_set n k l fails others = by_test (q k)
-      (λ y. any_at q n k l y ∙ sym (rw y (or_true (any p n))))
+      (λ y. any_at q n k l y ∙ sym (rw y (or-true (any p n))))
       (λ m. any_same n (λ i b. by_eq i k (λ (e : i ≡ k). rw e (m ∙ sym fails)) (others i b)) ∙ sym (rw m (or-false (any p n))))
 
 -- below the first index at which p holds, it fails

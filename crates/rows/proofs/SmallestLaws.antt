@@ -10,7 +10,7 @@ use lib.Dec.{leb, ltb}
 use borrow.Author.Tests.{ltb-true, ltb-false, lt-ltb, le-ltb, le-leb, lt-leb}
 use Rattle.rows.proofs.BoolLaws.{by_test, both, and_both, and_left, and_right, or_from}
 use Rattle.rows.proofs.IndexLaws.{all_from, all_breaks, none_at, none_from, first_hit, first_none, search_on}
-use Rattle.rows.specs.Words.{any, first, none_smaller, smallest}
+use Rattle.rows.specs.Words.{any, none_smaller, smallest}
 
 -- among the indices below i the smallest stands at best: p holds there, at none of them m is smaller, and at none before it as small
 pub record Smallest (p : ℕ → Bool) (m : ℕ → ℕ) (i best : ℕ) : Type 0 where

@@ -1,0 +1,16 @@
+use Rattle.boot.specs.Choice.{name_of, all_there}
+use Rattle.directory.specs.Directory.{in_directory}
+use Rattle.rows.proofs.BoolLaws.{passed, refused}
+use Rattle.rows.proofs.IndexLaws.{Passing, pass_starts, pass_on, pass_breaks, pass_ends}
+use Rattle.rows.proofs.RowLaws.{length_part}
+use native.Mathlib.Omega.{arith}
+use mathlib.Core.Path.{ap, ◌∙◌}
+use lib.ListN.{length}
+use Prim.Native.Nat.{◌-◌}
+use Rattle.boot.proofs.block.all_there.Given as goal
+
+abbrev pub invariant-loop-k : goal.invariant-loop-k
+invariant-loop-k l = Passing (λ j. in_directory l.directory (name_of l.list j)) l.n l.k
+
+abbrev pub decreases-loop-k : goal.decreases-loop-k
+decreases-loop-k l = l.n - l.k

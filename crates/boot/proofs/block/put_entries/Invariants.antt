@@ -1,0 +1,16 @@
+use Rattle.boot.specs.Block.{load_entry}
+use Rattle.boot.proofs.BlockLaws.{name_file, entry_long, entry_is}
+use Rattle.rows.specs.Rows.{put, join}
+use Rattle.rows.proofs.RowLaws.{join_none, join_more}
+use lib.ListN.{length}
+use mathlib.Core.Path.{◌≡◌, refl, ap, ◌∙◌}
+use native.Mathlib.Nat.{le_antisymm}
+use native.Mathlib.Omega.{arith}
+use Prim.Native.Nat.{ℕ, ◌-◌, ◌≤◌}
+use Rattle.boot.proofs.block.put_entries.Given as goal
+
+abbrev pub invariant-loop-k : goal.invariant-loop-k
+invariant-loop-k l = (l.k ≤ l.n) × (l.block ≡ put l.initial.block 66 (join (load_entry l.directory l.list) l.k)) × (length l.block ≡ length l.initial.block)
+
+abbrev pub decreases-loop-k : goal.decreases-loop-k
+decreases-loop-k l = l.n - l.k

@@ -1,0 +1,24 @@
+use Rattle.boot.specs.Systems.{system_rows, fits_exactly}
+use Rattle.rows.proofs.IndexLaws.{Searching, search_starts, search_on, search_hit, search_ends}
+use native.Mathlib.Omega.{arith}
+use mathlib.Core.Path.{sym, ◌∙◌}
+use Prim.Native.Nat.{◌-◌}
+use Rattle.boot.proofs.systems.find_exact.Goals as goal
+
+pub loop-i-init : goal.loop-i-init
+loop-i-init c = search_starts _ _
+
+pub fits_exactly-requires : goal.fits_exactly-requires
+unfolding system_rows
+fits_exactly-requires c = c.loop-i-test.true
+
+pub returns-then-fits_exactly : goal.returns-then-fits_exactly
+unfolding system_rows
+returns-then-fits_exactly c = search_hit _ _ c.loop-i.invariant c.loop-i-test.true (sym c.fits_exactly.ensures ∙ c.if-fits_exactly.true)
+
+pub loop-i-preserved : goal.loop-i-preserved
+loop-i-preserved c = search_on _ _ c.loop-i.invariant c.loop-i-test.true (sym c.fits_exactly.ensures ∙ c.if-fits_exactly.false)
+
+pub returns : goal.returns
+unfolding system_rows
+returns c = search_ends _ _ c.loop-i.invariant c.loop-i-test.false

@@ -1,0 +1,26 @@
+use Rattle.boot.specs.Systems.{system_rows, system_options, fits_exactly}
+use Rattle.rows.proofs.BoolLaws.{passed, refused}
+use native.Mathlib.Omega.{arith}
+use mathlib.Core.Path.{sym}
+use borrow.Author.Rules.{rules}
+use Rattle.boot.proofs.systems.fits_exactly.Goals as goal
+
+pub returns-then-not-fits : goal.returns-then-not-fits
+unfolding fits_exactly
+returns-then-not-fits c = rw (refused c.fits.ensures c.if-not-fits.true)
+
+pub overflow_mul-i : goal.overflow_mul-i
+unfolding system_rows
+overflow_mul-i c = omega (arith, c.requires)
+
+pub overflow_add-i : goal.overflow_add-i
+unfolding system_rows
+overflow_add-i c = omega (arith, c.requires)
+
+pub part-requires : goal.part-requires
+unfolding system_rows
+part-requires c = omega (arith, c.requires)
+
+pub returns : goal.returns
+unfolding fits_exactly system_options
+returns c = rw (passed c.fits.ensures c.if-not-fits.false, sym c.part.ensures) c.is_same.ensures.answer

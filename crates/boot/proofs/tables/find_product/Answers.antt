@@ -1,0 +1,25 @@
+use Rattle.boot.specs.Tables.{is_product}
+use Rattle.rows.proofs.IndexLaws.{Searching, search_starts, search_on, search_hit, search_ends}
+use native.Mathlib.Omega.{arith}
+use mathlib.Core.Path.{sym, ◌∙◌}
+use borrow.Author.Tests.{eq-eqb, ne_eqb}
+use Prim.Native.Nat.{◌-◌}
+use Rattle.boot.proofs.tables.find_product.Goals as goal
+
+pub loop-i-init : goal.loop-i-init
+loop-i-init c = search_starts _ _
+
+pub returns-then-seven_bits-wanted : goal.returns-then-seven_bits-wanted
+unfolding is_product
+returns-then-seven_bits-wanted c =
+    let wanted = c.seven_bits-wanted.ensures.0 in
+    search_hit _ _ c.loop-i.invariant c.loop-i-test.true (eq-eqb _ _ (sym c.seven_bits.ensures.0 ∙ c.if-seven_bits-wanted.true ∙ wanted))
+
+pub loop-i-preserved : goal.loop-i-preserved
+unfolding is_product
+loop-i-preserved c =
+    let wanted = c.seven_bits-wanted.ensures.0 in
+    search_on _ _ c.loop-i.invariant c.loop-i-test.true (ne_eqb _ _ (λ e. c.if-seven_bits-wanted.false (c.seven_bits.ensures.0 ∙ e ∙ sym wanted)))
+
+pub returns : goal.returns
+returns c = search_ends _ _ c.loop-i.invariant c.loop-i-test.false

@@ -1,0 +1,7 @@
+use Rattle.frames.specs.Reading.{named_in, login_in}
+use borrow.Author.Rules.{rules}
+use Rattle.frames.proofs.parse.login.Goals as goal
+
+pub returns : goal.returns
+unfolding login_in named_in
+returns c = rw (c.named-q.ensures, c.four_of-serial.ensures)

@@ -1,0 +1,27 @@
+use native.Mathlib.Omega.{arith}
+use lib.Pow.{pow_mono}
+use Rattle.framing.specs.Inner.{place}
+use Rattle.framing.proofs.PenLaws.{rest_none, rest_byte}
+use borrow.Author.Rules.{rules}
+use Rattle.framing.proofs.send.put_rest.Goals as goal
+
+pub overflow_cast-out : goal.overflow_cast-out
+overflow_cast-out c =
+    let pen = c.args.pen in
+    let sound = c.requires.1 in
+    record { fits = omega (arith, sound.small, pow_mono {i = pen.held} {j = 8} (omega (arith, sound.few))) }
+
+pub bounds-out-at : goal.bounds-out-at
+unfolding place
+bounds-out-at c = omega (arith, c.requires.2, c.if-pen-gt0.true)
+
+pub returns-then-pen-gt0 : goal.returns-then-pen-gt0
+unfolding place
+returns-then-pen-gt0 c =
+    let pre = c.requires in
+    rest_byte _ c.args.pen pre.0 pre.1 c.if-pen-gt0.true (omega (arith, pre.2, c.if-pen-gt0.true))
+
+pub returns-else-pen-gt0 : goal.returns-else-pen-gt0
+returns-else-pen-gt0 c =
+    let pre = c.requires in
+    rest_none _ c.args.pen pre.0 pre.1 (omega (arith, c.if-pen-gt0.false))

@@ -1,0 +1,29 @@
+use Prim.Native.Nat.{◌-◌, ◌≤◌}
+use native.Mathlib.Omega.{arith}
+use lib.ListN.{length}
+use Rattle.framing.specs.Bits.{to_bits}
+use Rattle.framing.specs.Inner.{coming, Goes}
+use Rattle.framing.proofs.TakeLaws.{goes_none, goes_both, coming_more}
+use Rattle.framing.proofs.take.pull.Goals as goal
+
+pub loop-r-init : goal.loop-r-init
+loop-r-init c = let pre = c.requires in (goes_none _ _ _ pre.2, pre.3)
+
+pub step-r-requires : goal.step-r-requires
+step-r-requires c =
+    let at = c.loop-r in
+    let a = c.args in
+    let pre = c.requires in
+    let ready = at.invariant.0.ready in
+    (pre.0, pre.1, ready, c.loop-r-test.true, coming_more (to_bits a.s.now) a.to at.r ready c.loop-r-test.true at.invariant.1)
+
+pub loop-r-smaller : goal.loop-r-smaller
+loop-r-smaller c = omega (arith, c.step-r.ensures.0.ready.inside, c.step-r.ensures.1)
+
+pub loop-r-preserved : goal.loop-r-preserved
+loop-r-preserved c =
+    let at = c.loop-r in
+    (goes_both _ _ _ at.r c.step-r.result at.invariant.0 c.step-r.ensures.0, rw c.step-r.ensures.0.same at.invariant.1)
+
+pub returns : goal.returns
+returns c = (c.loop-r.invariant.0, c.loop-r-test.false)

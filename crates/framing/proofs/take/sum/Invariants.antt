@@ -1,0 +1,11 @@
+use Prim.Native.Nat.{◌-◌, ◌<◌}
+use native.Mathlib.Omega.{arith}
+use Rattle.framing.specs.Bits.{to_bits}
+use Rattle.framing.proofs.SumLaws.{Summing, sum_starts, sum_step, sum_byte, sum_fits, sum_ends}
+use Rattle.framing.proofs.take.sum.Given as goal
+
+abbrev pub invariant-loop-t : goal.invariant-loop-t
+invariant-loop-t l = Summing (to_bits l.s) l.from l.to l.register l.bytes l.t × (l.t.held < 8)
+
+abbrev pub decreases-loop-t : goal.decreases-loop-t
+decreases-loop-t l = l.to - l.t.at

@@ -1,0 +1,11 @@
+use mathlib.Core.Path.{ap, ◌∙◌}
+use Rattle.hinet.specs.Packing.{word}
+use Rattle.hinet.specs.BootEntries.{booted_told}
+use Rattle.hinet.proofs.BootLaws.{booted_choice}
+use borrow.Author.Rules.{rules}
+use Rattle.hinet.proofs.booting.hinet_boot.Goals as goal
+
+pub returns : goal.returns
+returns c =
+    let got = c.boot.ensures in
+    record { answer = c.pack_booted.ensures ∙ ap (λ w. word (booted_told w)) got.answer ∙ ap word (booted_choice _ _ _ _ _); left = got.left }

@@ -1,0 +1,12 @@
+use borrow.Author.Tests.{lt-ltb, le-ltb}
+use Rattle.lines.specs.Line.{digit}
+use borrow.Author.Rules.{rules}
+use Rattle.lines.proofs.digit.Goals as goal
+
+pub returns-then-d-lt10 : goal.returns-then-d-lt10
+unfolding digit
+returns-then-d-lt10 c = rw (lt-ltb _ _ c.if-d-lt10.true)
+
+pub returns : goal.returns
+unfolding digit
+returns c = rw (le-ltb _ _ c.if-d-lt10.false)

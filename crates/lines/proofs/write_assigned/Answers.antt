@@ -1,0 +1,7 @@
+use Rattle.lines.proofs.WriteLaws.{writes_then}
+use Rattle.lines.specs.Line.{hex_byte}
+use borrow.Author.Rules.{rules}
+use Rattle.lines.proofs.write_assigned.Goals as goal
+
+pub returns : goal.returns
+returns c = writes_then _ _ _ _ c.write_hex-a.ensures (writes_then _ _ _ _ c.write_hex-b.ensures (writes_then _ _ _ _ c.write_hex-c.ensures c.write_hex.ensures))

@@ -1,0 +1,17 @@
+use Prim.Native.Nat.{ℕ, ◌-◌, ◌*◌, ◌≤◌}
+use Rattle.locks.proofs.LockRowLaws.{freed_long}
+use Rattle.locks.specs.Table.{row_count, cleared_table}
+use Rattle.locks.specs.Row.{freed}
+use Rattle.rows.proofs.RowLaws.{each_row_none, each_row_more, row_each_row_out}
+use Rattle.rows.specs.Rows.{row, each_row}
+use lib.ListN.{length}
+use mathlib.Core.Path.{◌≡◌, refl, ap, ◌∙◌}
+use native.Mathlib.Nat.{le_antisymm}
+use native.Mathlib.Omega.{arith}
+use Rattle.locks.proofs.free_all.Given as goal
+
+abbrev pub invariant-loop-i : goal.invariant-loop-i
+invariant-loop-i l = (l.i ≤ row_count l.initial.table) × (l.table ≡ each_row 16 (freed l.who) l.i l.initial.table) × (length l.table ≡ length l.initial.table)
+
+abbrev pub decreases-loop-i : goal.decreases-loop-i
+decreases-loop-i l = row_count l.initial.table - l.i

@@ -1,0 +1,18 @@
+use Rattle.site.proofs.NameLaws.{unseen_number}
+use Rattle.site.specs.Rules.{number_alone}
+use Rattle.site.specs.Shortcuts.{number_hash}
+use Rattle.rows.proofs.IndexLaws.{Searching, search_starts, search_on, search_hit, search_ends, fails_at, holds_at}
+use Rattle.rows.specs.Words.{fails}
+use Rattle.rows.proofs.MarkLaws.{Marked, mark_starts, mark_adds}
+use Rattle.rows.specs.Marks.{marked}
+use borrow.Author.Tests.{not-true, not-false}
+use mathlib.Core.Path.{refl, sym, ap, ◌∙◌}
+use native.Mathlib.Omega.{arith}
+use Prim.Native.Nat.{◌-◌}
+use Rattle.site.proofs.rules.first_number_repeated.Given as goal
+
+abbrev pub invariant-loop-i : goal.invariant-loop-i
+invariant-loop-i l = Searching (fails (number_alone l.file)) l.n l.i × Marked 8 (number_hash l.file) l.map l.i
+
+abbrev pub decreases-loop-i : goal.decreases-loop-i
+decreases-loop-i l = l.n - l.i

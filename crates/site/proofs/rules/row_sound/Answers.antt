@@ -1,0 +1,13 @@
+use Rattle.site.specs.Rules.{sound, ranged}
+use mathlib.Core.Path.{ap, sym, ◌∙◌}
+use borrow.Author.Tests.{not-true, not-false}
+use borrow.Author.Rules.{rules}
+use Rattle.site.proofs.rules.row_sound.Goals as goal
+
+pub returns-then-not-row_ranged : goal.returns-then-not-row_ranged
+unfolding sound
+returns-then-not-row_ranged c = rw (sym (ap ranged c.row_of.ensures) ∙ sym c.row_ranged.ensures ∙ c.if-not-row_ranged.true)
+
+pub returns : goal.returns
+unfolding sound
+returns c = rw (sym (ap ranged c.row_of.ensures) ∙ sym c.row_ranged.ensures ∙ c.if-not-row_ranged.false) (rw c.requires.0 at c.spare_zero.ensures)

@@ -1,0 +1,21 @@
+use Rattle.site.specs.Rules.{partition_numbered}
+use Rattle.rows.proofs.IndexLaws.{Searching, search_starts, search_on, search_hit, search_ends}
+use native.Mathlib.Omega.{arith}
+use mathlib.Core.Path.{sym, ◌∙◌}
+use Prim.Native.Nat.{◌-◌}
+use Rattle.site.proofs.search.find_number.Goals as goal
+
+pub loop-i-init : goal.loop-i-init
+loop-i-init c = search_starts _ _
+
+pub is_numbered-requires : goal.is_numbered-requires
+is_numbered-requires c = (c.requires.0, omega arith)
+
+pub returns-then-is_numbered : goal.returns-then-is_numbered
+returns-then-is_numbered c = search_hit _ _ c.loop-i.invariant c.loop-i-test.true (sym c.is_numbered.ensures ∙ c.if-is_numbered.true)
+
+pub loop-i-preserved : goal.loop-i-preserved
+loop-i-preserved c = search_on _ _ c.loop-i.invariant c.loop-i-test.true (sym c.is_numbered.ensures ∙ c.if-is_numbered.false)
+
+pub returns : goal.returns
+returns c = search_ends _ _ c.loop-i.invariant c.loop-i-test.false

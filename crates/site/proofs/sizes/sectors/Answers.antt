@@ -1,0 +1,8 @@
+use Rattle.site.specs.Rules.{sectors}
+use native.Mathlib.Omega.{arith}
+use borrow.Author.Rules.{rules}
+use Rattle.site.proofs.sizes.sectors.Goals as goal
+
+pub returns : goal.returns
+unfolding sectors
+returns c = (rw c.tracks.ensures.0, omega arith)

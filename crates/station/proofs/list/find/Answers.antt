@@ -1,0 +1,16 @@
+use Rattle.terms.specs.declared.table.Shape.{Shape}
+use Rattle.terms.specs.Tables.{row_holds}
+use Rattle.rows.specs.Words.{first}
+use lib.Dec.{lit≤}
+use mathlib.Core.Path.{ap, ◌∙◌}
+use borrow.Author.Rules.{rules}
+use Rattle.station.proofs.list.find.Goals as goal
+
+pub find-requires : goal.find-requires
+find-requires c = rw c.shape.ensures (c.requires, lit≤ tt)
+
+pub returns : goal.returns
+returns c =
+    let a = c.args in
+    c.find.ensures
+    ∙ ap (λ (shape : Shape). first (row_holds shape a.list.now a.s) a.n) c.shape.ensures

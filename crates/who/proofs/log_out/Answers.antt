@@ -1,0 +1,7 @@
+use Rattle.who.specs.Logins.{after_logout}
+use borrow.Author.Rules.{rules}
+use Rattle.who.proofs.log_out.Goals as goal
+
+pub returns : goal.returns
+unfolding after_logout
+returns c = c.put.ensures
