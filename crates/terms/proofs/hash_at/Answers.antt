@@ -1,6 +1,5 @@
 use Rattle.terms.proofs.StringLaws.{hash_string}
 use mathlib.Core.Path.{sym, ◌∙◌}
-use borrow.Author.Rules.{rules}
 use Rattle.terms.proofs.hash_at.Goals as goal
 
 pub returns : goal.returns

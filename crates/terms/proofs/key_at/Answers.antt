@@ -2,7 +2,6 @@ use Rattle.terms.proofs.StringLaws.{key_part}
 use Rattle.rows.specs.Rows.{part}
 use mathlib.Core.Path.{ap, ◌∙◌}
 use Prim.Native.Nat.{◌+◌}
-use borrow.Author.Rules.{rules}
 use Rattle.terms.proofs.key_at.Goals as goal
 
 pub returns : goal.returns

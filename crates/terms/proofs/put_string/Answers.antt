@@ -10,7 +10,7 @@ use Rattle.terms.proofs.put_string.Goals as goal
 pub put-requires-2 : goal.put-requires-2
 put-requires-2 c =
     let full : length c.args.s.bytes ≡ 13 = search rules in
-    omega (arith, c.put.auto.0, c.requires)
+    omega (arith, c.put.auto.s, c.requires)
 
 pub returns : goal.returns
 returns c =

@@ -1,5 +1,4 @@
 use Rattle.terms.specs.Strings.{string_at}
-use borrow.Author.Rules.{rules}
 use Rattle.terms.proofs.string_at.Goals as goal
 
 pub returns : goal.returns

@@ -6,7 +6,6 @@ use lib.Dec.{eqb}
 use mathlib.Core.List.{[]}
 use mathlib.Core.Path.{refl, ap, ◌∙◌}
 use Prim.Native.Nat.{ℕ}
-use borrow.Author.Rules.{rules}
 use Rattle.terms.proofs.names.matches.Goals as goal
 
 pub returns : goal.returns

@@ -5,7 +5,6 @@ use lib.Dec.{lit≤}
 use mathlib.Core.List.{[]}
 use mathlib.Core.Path.{refl, ap, ◌∙◌}
 use native.Mathlib.Omega.{arith}
-use borrow.Author.Rules.{rules}
 use Rattle.terms.proofs.names.pattern_of.Goals as goal
 
 pub returns-then-solid-eq0 : goal.returns-then-solid-eq0

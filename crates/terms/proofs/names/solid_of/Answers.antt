@@ -3,7 +3,6 @@ use Rattle.rows.proofs.RowLaws.{part_end}
 use Rattle.rows.specs.Numbers.{low_first}
 use mathlib.Core.List.{[]}
 use mathlib.Core.Path.{refl, ap, ◌∙◌}
-use borrow.Author.Rules.{rules}
 use Rattle.terms.proofs.names.solid_of.Goals as goal
 
 pub returns : goal.returns

@@ -1,8 +1,5 @@
 use Rattle.terms.specs.Shortcuts.{row_has_key}
-use Rattle.rows.proofs.IndexLaws.{Searching, search_starts, search_on, search_hit, search_ends}
-use Rattle.rows.proofs.RowLaws.{row_end}
-use mathlib.Core.Path.{sym, ◌∙◌}
-use native.Mathlib.Omega.{arith}
+use Rattle.rows.proofs.IndexLaws.{Searching}
 use Prim.Native.Nat.{◌-◌}
 use Rattle.terms.proofs.table.find_key.Given as goal
 

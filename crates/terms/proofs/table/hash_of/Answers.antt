@@ -1,7 +1,6 @@
 use Rattle.terms.proofs.TableLaws.{string_at_lem}
 use Rattle.terms.specs.Shortcuts.{string_hash}
 use mathlib.Core.Path.{ap, ◌∙◌}
-use borrow.Author.Rules.{rules}
 use Rattle.terms.proofs.table.hash_of.Goals as goal
 
 pub returns : goal.returns

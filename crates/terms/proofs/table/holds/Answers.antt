@@ -6,7 +6,6 @@ use Rattle.rows.specs.Words.{same}
 use lib.Dec.{eqb}
 use mathlib.Core.Bool.{◌&&◌}
 use mathlib.Core.Path.{sym, ap, ◌∙◌}
-use borrow.Author.Rules.{rules}
 use Rattle.terms.proofs.table.holds.Goals as goal
 
 pub returns-then-is_free : goal.returns-then-is_free

@@ -1,5 +1,4 @@
 use Rattle.terms.proofs.TableLaws.{free_at_lem}
-use borrow.Author.Rules.{rules}
 use Rattle.terms.proofs.table.is_free.Goals as goal
 
 pub returns : goal.returns

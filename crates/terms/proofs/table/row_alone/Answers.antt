@@ -5,14 +5,12 @@ use Rattle.terms.specs.Strings.{string_at}
 use Rattle.terms.specs.Tables.{row_holds, row_alone}
 use Rattle.rows.proofs.IndexLaws.{first_misses}
 use Rattle.rows.specs.Words.{first}
-use borrow.Author.Tests.{not-true}
 use lib.Dec.{leb}
 use lib.ListN.{get_or}
 use mathlib.Core.Bool.{Bool}
 use mathlib.Core.List.{List}
 use mathlib.Core.Path.{sym, ap, ◌∙◌}
 use Prim.Native.Nat.{ℕ, ◌+◌, ◌*◌}
-use borrow.Author.Rules.{rules}
 use Rattle.terms.proofs.table.row_alone.Goals as goal
 
 pub returns-then-not-seen : goal.returns-then-not-seen

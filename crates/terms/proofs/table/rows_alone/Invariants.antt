@@ -1,13 +1,7 @@
-use Rattle.terms.proofs.TableLaws.{unseen_alone}
 use Rattle.terms.specs.Shortcuts.{string_hash}
 use Rattle.terms.specs.Tables.{row_string, row_alone}
-use Rattle.rows.proofs.IndexLaws.{Passing, pass_starts, pass_on, pass_breaks, pass_ends}
-use Rattle.rows.proofs.MarkLaws.{Marked, mark_starts, mark_adds}
-use Rattle.rows.proofs.RowLaws.{row_end}
-use Rattle.rows.specs.Marks.{marked}
-use borrow.Author.Tests.{not-true, not-false}
-use mathlib.Core.Path.{refl, sym, ap, ◌∙◌}
-use native.Mathlib.Omega.{arith}
+use Rattle.rows.proofs.IndexLaws.{Passing}
+use Rattle.rows.proofs.MarkLaws.{Marked}
 use Prim.Native.Nat.{◌-◌}
 use Rattle.terms.proofs.table.rows_alone.Given as goal
 
