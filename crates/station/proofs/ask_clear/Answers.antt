@@ -10,7 +10,6 @@ use Rattle.rows.proofs.RowLaws.{filled, put_behind}
 use Rattle.frames.specs.Table.{CLEAR}
 use Rattle.station.specs.Asks.{after_clear}
 use Rattle.station.specs.State.{list_of}
-use borrow.Author.Rules.{rules}
 use Rattle.station.proofs.ask_clear.Goals as goal
 
 pub returns-then-refusal-ne0 : goal.returns-then-refusal-ne0
@@ -22,7 +21,7 @@ overflow_sub-size c =
     state_fits st (askable st (sym c.ask_refusal-refusal.ensures ∙ c.if-refusal-ne0.false)).0
 
 pub put-requires : goal.put-requires
-put-requires c = omega (arith, c.fill.auto.0, sub-put c)
+put-requires c = omega (arith, state_fits c.args.state.now (askable c.args.state.now (sym c.ask_refusal-refusal.ensures ∙ c.if-refusal-ne0.false)).0)
 
 pub returns : goal.returns
 unfolding after_clear
@@ -30,6 +29,6 @@ returns c =
     let st = c.args.state.now in
     let n = length (list_of st) in
     let g = ask_done st (after_clear st) (sym c.ask_refusal-refusal.ensures ∙ c.if-refusal-ne0.false) in
-    let whole : n + 15 ≡ length st = omega (arith, list_long st, sub-put c) in
+    let whole : n + 15 ≡ length st = omega (arith, list_long st, state_fits c.args.state.now (askable c.args.state.now (sym c.ask_refusal-refusal.ensures ∙ c.if-refusal-ne0.false)).0) in
     let empty = c.fill.ensures ∙ filled st (length st) 0 refl ∙ ap (λ (k : ℕ). replicate k 0) (sym whole) ∙ sym (replicate-append-replicate n 15 0) in
     record { answer = g.answer; left = c.put.ensures ∙ ap (λ (l : List ℕ). put l (length st - 15) (CLEAR ∷ [])) empty ∙ put_behind (replicate n 0) (replicate 15 0) (CLEAR ∷ []) (length st - 15) (length-replicate {A = ℕ} n 0 ∙ list_long st) ∙ g.left }

@@ -2,7 +2,6 @@ use mathlib.Core.Path.{sym, ◌∙◌}
 use Rattle.station.proofs.Cases.{askable, ask_refused, ask_done}
 use Rattle.station.proofs.StateLaws.{state_fits}
 use Rattle.station.specs.Asks.{after_lock}
-use borrow.Author.Rules.{rules}
 use Rattle.station.proofs.ask_lock.Goals as goal
 
 pub returns-then-refusal-ne0 : goal.returns-then-refusal-ne0

@@ -1,9 +1,8 @@
 use native.Mathlib.Omega.{arith}
 use mathlib.Core.Path.{sym, ◌∙◌}
-use borrow.Author.Tests.{eq-eqb, ne_eqb, not-true, not-false}
+use borrow.Author.Tests.{eq-eqb, ne_eqb}
 use Rattle.station.proofs.StateLaws.{code_at, state_fits}
 use Rattle.station.specs.Asks.{waits, ask_refusal}
-use borrow.Author.Rules.{rules}
 use Rattle.station.proofs.ask_refusal.Goals as goal
 
 pub returns-then-not-is_good : goal.returns-then-not-is_good
@@ -14,7 +13,7 @@ pub overflow_sub-at : goal.overflow_sub-at
 overflow_sub-at c = state_fits c.args.state.now (sym c.is_good.ensures.answer ∙ c.if-not-is_good.false)
 
 pub bounds-state-at : goal.bounds-state-at
-bounds-state-at c = omega (arith, sub_at c)
+bounds-state-at c = omega (arith, state_fits c.args.state.now (sym c.is_good.ensures.answer ∙ c.if-not-is_good.false))
 
 pub returns-then-state-at-eq0 : goal.returns-then-state-at-eq0
 unfolding ask_refusal waits

@@ -8,7 +8,6 @@ use Rattle.station.proofs.StateLaws.{list_long, wait_long, list_of_lem, lent_lon
 use Rattle.frames.specs.Table.{UNLOCK}
 use Rattle.station.specs.Asks.{after_unlock, awaited}
 use Rattle.station.specs.State.{list_of, wait_of}
-use borrow.Author.Rules.{rules}
 use Rattle.station.proofs.ask_unlock.Goals as goal
 
 pub returns-then-refusal-ne0 : goal.returns-then-refusal-ne0
@@ -27,8 +26,8 @@ pub await_string-requires : goal.await_string-requires
 unfolding list_of wait_of
 await_string-requires c =
     let st = c.args.state.now in
-    let fits : 15 ≤ length st = sub-end c in
-    omega (arith, lent_long st c.strike.new.0 fits c.strike.auto.0)
+    let fits : 15 ≤ length st = state_fits c.args.state.now (askable c.args.state.now (sym c.ask_refusal-refusal.ensures ∙ c.if-refusal-ne0.false)).0 in
+    omega (arith, lent_long st c.strike.new.list fits c.strike.auto.list)
 
 pub returns : goal.returns
 unfolding after_unlock list_of wait_of
@@ -36,4 +35,4 @@ returns c =
     let a = c.args in
     let st = a.state.now in
     let g = ask_done st (after_unlock st a.s) (sym c.ask_refusal-refusal.ensures ∙ c.if-refusal-ne0.false) in
-    record { answer = g.answer; left = c.await_string.ensures ∙ ap (λ (l : List _). l ++ awaited UNLOCK a.s) (list_of_lem c.strike.new.0 (wait_of st) (wait_long st (sub-end c)) ∙ c.strike.ensures) ∙ g.left }
+    record { answer = g.answer; left = c.await_string.ensures ∙ ap (λ (l : List _). l ++ awaited UNLOCK a.s) (list_of_lem c.strike.new.list (wait_of st) (wait_long st (state_fits c.args.state.now (askable c.args.state.now (sym c.ask_refusal-refusal.ensures ∙ c.if-refusal-ne0.false)).0)) ∙ c.strike.ensures) ∙ g.left }

@@ -6,7 +6,6 @@ use Prim.Native.Nat.{◌+◌, ◌-◌}
 use Rattle.rows.proofs.RowLaws.{part_drop}
 use Rattle.terms.specs.Strings.{string_at}
 use Rattle.station.specs.State.{wait_of, asked_in}
-use borrow.Author.Rules.{rules}
 use Rattle.station.proofs.asked.Goals as goal
 
 pub returns : goal.returns

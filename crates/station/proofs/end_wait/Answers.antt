@@ -4,7 +4,6 @@ use Prim.Native.Nat.{◌-◌}
 use mathlib.Core.Path.{◌∙◌}
 use Rattle.rows.proofs.RowLaws.{put_last}
 use Rattle.station.specs.State.{list_of, nothing}
-use borrow.Author.Rules.{rules}
 use Rattle.station.proofs.end_wait.Goals as goal
 
 pub returns : goal.returns

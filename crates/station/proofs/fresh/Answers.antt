@@ -3,7 +3,6 @@ use borrow.Author.Tests.{eq-eqb, ne_eqb}
 use lib.ListN.{replicate-append-replicate}
 use Rattle.rows.proofs.RowLaws.{filled}
 use Rattle.station.specs.Asks.{fresh_state, fresh_refusal}
-use borrow.Author.Rules.{rules}
 use Rattle.station.proofs.fresh.Goals as goal
 
 pub returns-then-state-ne-BYTES : goal.returns-then-state-ne-BYTES

@@ -1,8 +1,7 @@
 use mathlib.Core.Path.{sym, ap, ◌∙◌}
 use mathlib.Core.Bool.{not}
-use borrow.Author.Tests.{eq-eqb, ne_eqb, not-true, not-false}
+use borrow.Author.Tests.{eq-eqb, ne_eqb}
 use Rattle.station.specs.Replies.{carries_length}
-use borrow.Author.Rules.{rules}
 use Rattle.station.proofs.is_bad_grant.Goals as goal
 
 pub returns-then-not-is_grant : goal.returns-then-not-is_grant

@@ -7,14 +7,13 @@ use Rattle.terms.specs.Tables.{row_in, row_free, row_string, row_alone}
 use Rattle.rows.proofs.IndexLaws.{all_at}
 use Rattle.rows.proofs.RowLaws.{length_row}
 use Rattle.rows.specs.Words.{all}
-use borrow.Author.Tests.{eq-eqb, ne_eqb, not-true, not-false}
+use borrow.Author.Tests.{eq-eqb, ne_eqb}
 use lib.Dec.{lit≤}
 use lib.ListN.{length, take, drop, length-drop}
 use lib.Seq.{take_all}
 use mathlib.Core.Path.{ap, sym, ◌∙◌}
 use native.Mathlib.Omega.{arith}
 use Prim.Native.Nat.{◌-◌, ◌*◌, ◌≤◌}
-use borrow.Author.Rules.{rules}
 use Rattle.station.proofs.is_good.Goals as goal
 
 pub returns-then-state-ne-BYTES : goal.returns-then-state-ne-BYTES
@@ -50,7 +49,7 @@ rows_alone-requires c =
     let l = take (length st - 15) st in
     let sized : 14 * 64 ≤ length l = omega (arith, list_long st, c.if-state-ne-BYTES.false) in
     rw c.shape.ensures
-    (sized, (lit≤ tt, λ i b used. place_normal l i (length_row 14 64 l sized i b) (all_at (good_at l) 64 i (sym c.places_good.ensures ∙ c.if-not-places_good.false) b) used))
+    (record { n_in_bounds = sized; string_bound = lit≤ tt; by_index = λ i b used. place_normal l i (length_row 14 64 l sized i b) (all_at (good_at l) 64 i (sym c.places_good.ensures ∙ c.if-not-places_good.false) b) used })
 
 pub returns-then-not-rows_alone : goal.returns-then-not-rows_alone
 unfolding good_state good_list list_of

@@ -1,5 +1,5 @@
 use native.Mathlib.Omega.{arith}
-use mathlib.Core.Logic.{⊎_elim, inl, inr}
+use mathlib.Core.Logic.{⊎_elim}
 use mathlib.Core.Path.{◌≡◌}
 use borrow.Author.Tests.{eq-eqb, ne_eqb}
 use Rattle.rows.proofs.BoolLaws.{by_eq}
@@ -34,7 +34,7 @@ returns-in-0-reply c = let b = c.args.reply in
 pub returns-in_default-reply : goal.returns-in_default-reply
 unfolding fits
 returns-in_default-reply c = let b = c.args.reply in
-    rw (ne_eqb _ _ c.if-code-eq-LOCK.false, eq-eqb _ _ c.if-code-eq-UNLOCK.true, ne_eqb b 0 (λ e. c.in_default-reply.rest.1 (inl e)), ne_eqb b 2 (λ e. c.in_default-reply.rest.1 (inr e)))
+    rw (ne_eqb _ _ c.if-code-eq-LOCK.false, eq-eqb _ _ c.if-code-eq-UNLOCK.true, ne_eqb b 0 (grind arith), ne_eqb b 2 (grind arith))
 
 pub returns-then-code-ne-CLEAR : goal.returns-then-code-ne-CLEAR
 unfolding fits

@@ -1,9 +1,8 @@
 use mathlib.Core.Path.{sym, ap, ◌∙◌}
-use borrow.Author.Tests.{eq-eqb, ne_eqb, not-true, not-false}
+use borrow.Author.Tests.{eq-eqb, ne_eqb}
 use lib.Dec.{leb}
 use Rattle.rows.proofs.IndexLaws.{first_misses}
 use Rattle.station.specs.State.{is_listed}
-use borrow.Author.Rules.{rules}
 use Rattle.station.proofs.is_new.Goals as goal
 
 pub returns-then-code-ne-LOCK : goal.returns-then-code-ne-LOCK

@@ -1,8 +1,5 @@
-use Prim.Native.Nat.{◌-◌}
 use mathlib.Core.Path.{sym, ◌∙◌}
-use native.Mathlib.Omega.{arith}
-use Rattle.rows.proofs.IndexLaws.{Searching, search_starts, search_on, search_hit, search_ends}
-use Rattle.station.specs.State.{unused}
+use Rattle.rows.proofs.IndexLaws.{search_starts, search_on, search_hit, search_ends}
 use Rattle.station.proofs.list.count.Goals as goal
 
 pub loop-i-init : goal.loop-i-init

@@ -1,7 +1,5 @@
 use Prim.Native.Nat.{◌-◌}
-use mathlib.Core.Path.{sym, ◌∙◌}
-use native.Mathlib.Omega.{arith}
-use Rattle.rows.proofs.IndexLaws.{Searching, search_starts, search_on, search_hit, search_ends}
+use Rattle.rows.proofs.IndexLaws.{Searching}
 use Rattle.station.specs.State.{unused}
 use Rattle.station.proofs.list.count.Given as goal
 

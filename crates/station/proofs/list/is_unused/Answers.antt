@@ -1,7 +1,6 @@
 use Rattle.station.specs.State.{places}
 use Rattle.terms.proofs.TableLaws.{free_at_lem}
 use lib.Dec.{lit≤}
-use borrow.Author.Rules.{rules}
 use Rattle.station.proofs.list.is_unused.Goals as goal
 
 pub returns : goal.returns

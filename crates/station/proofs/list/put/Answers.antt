@@ -3,7 +3,6 @@ use Rattle.terms.specs.declared.LockString.{LockString}
 use Rattle.terms.specs.Strings.{string_bytes}
 use mathlib.Core.Path.{ap, ◌∙◌}
 use Prim.Native.Nat.{◌*◌}
-use borrow.Author.Rules.{rules}
 use Rattle.station.proofs.list.put.Goals as goal
 
 pub returns : goal.returns

@@ -1,9 +1,7 @@
 use mathlib.Core.Path.{sym, ap, ◌∙◌}
-use borrow.Author.Tests.{not-true, not-false}
 use Rattle.rows.proofs.IndexLaws.{found_if, missing_if}
 use Rattle.station.specs.Asks.{struck}
 use Rattle.station.specs.State.{is_listed, place_of, struck_at}
-use borrow.Author.Rules.{rules}
 use Rattle.station.proofs.list.strike.Goals as goal
 
 pub returns-then-not-is_legal : goal.returns-then-not-is_legal

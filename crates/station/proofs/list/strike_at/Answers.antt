@@ -5,11 +5,10 @@ use mathlib.Core.List.{List}
 use mathlib.Core.Path.{ap, ◌∙◌}
 use native.Mathlib.Omega.{arith}
 use Prim.Native.Nat.{ℕ, ◌-◌}
-use borrow.Author.Rules.{rules}
 use Rattle.station.proofs.list.strike_at.Goals as goal
 
 pub put-requires : goal.put-requires
-put-requires c = omega (arith, c.slide.auto.0, c.requires)
+put-requires c = omega (arith, c.slide.auto.s, c.requires)
 
 pub returns : goal.returns
 returns c =

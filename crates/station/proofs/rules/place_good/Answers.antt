@@ -8,7 +8,6 @@ use Rattle.rows.specs.Rows.{part}
 use Rattle.terms.specs.Strings.{string_at, legal}
 use Rattle.terms.specs.Tables.{is_free, string_in}
 use Rattle.station.specs.Good.{good_place}
-use borrow.Author.Rules.{rules}
 use Rattle.station.proofs.rules.place_good.Goals as goal
 
 pub returns-then-len-eq0 : goal.returns-then-len-eq0

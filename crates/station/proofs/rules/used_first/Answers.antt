@@ -1,13 +1,9 @@
 use Rattle.station.proofs.GoodLaws.{front_starts, front_breaks}
 use Rattle.station.specs.Good.{in_front}
-use Rattle.station.specs.State.{unused}
-use Rattle.rows.proofs.IndexLaws.{Passing, pass_on, pass_breaks, pass_ends}
-use Rattle.rows.specs.Words.{first}
-use borrow.Author.Tests.{not-true, not-false}
+use Rattle.rows.proofs.IndexLaws.{pass_on, pass_breaks, pass_ends}
 use mathlib.Core.Path.{sym, ◌∙◌}
 use native.Mathlib.Nat.{le_refl}
 use native.Mathlib.Omega.{arith}
-use Prim.Native.Nat.{◌-◌, ◌≤◌}
 use Rattle.station.proofs.rules.used_first.Goals as goal
 
 pub loop-i-init : goal.loop-i-init

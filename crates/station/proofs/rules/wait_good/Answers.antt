@@ -1,11 +1,10 @@
-use mathlib.Core.Logic.{⊎_elim}
 use mathlib.Core.Path.{ap, ◌∙◌}
 use borrow.Author.Tests.{eq-eqb, ne_eqb}
 use Rattle.rows.specs.Words.{zeros}
 use Rattle.station.specs.State.{code_in}
 use Rattle.station.specs.Good.{good_wait}
-use borrow.Author.Rules.{rules}
 use Rattle.station.proofs.rules.wait_good.Goals as goal
+use Rattle.station.proofs.rules.wait_good.Goals.{then-code-ne0+else-code-ne-CLEAR, else-code-ne0}
 
 pub returns-then-code-eq-LOCK : goal.returns-then-code-eq-LOCK
 unfolding good_wait code_in
@@ -22,7 +21,5 @@ returns-then-code-ne-CLEAR c = rw (ne_eqb _ _ c.if-code-eq-LOCK.false, ne_eqb _ 
 pub returns : goal.returns
 unfolding good_wait code_in
 returns c = let zero = c.is_zero.ensures.answer ∙ ap zeros c.part.ensures in
-    rw (ne_eqb _ _ c.if-code-eq-LOCK.false, ne_eqb _ _ c.if-code-eq-UNLOCK.false) (⊎_elim
-    (λ w. rw (ne_eqb _ _ w.0.taken, eq-eqb _ _ w.1.left) zero)
-    (λ w. rw (eq-eqb _ _ w.left) zero)
-    c.if-code-ne0.branch)
+    rw (ne_eqb _ _ c.if-code-eq-LOCK.false, ne_eqb _ _ c.if-code-eq-UNLOCK.false)
+    (elim c.if-code-ne0.branch [ then-code-ne0+else-code-ne-CLEAR w ↦ rw (ne_eqb _ _ w.if-code-ne0.true, eq-eqb _ _ w.if-code-ne-CLEAR.false) zero | else-code-ne0 w ↦ rw (eq-eqb _ _ w.if-code-ne0.false) zero ])
