@@ -8,7 +8,7 @@ use lib.Dec.{ltb}
 use borrow.Author.Tests.{ltb-true, lt-ltb, le-ltb, ltb-false}
 use Rattle.rows.specs.Words.{first, fails}
 use Rattle.rows.proofs.BoolLaws.{by_test, by_eq, both, and_left, and_right}
-use Rattle.rows.proofs.IndexLaws.{at_holds, all_first, first_found, first_least, first_most, found_if, first_fails_both, stops_at}
+use Rattle.rows.proofs.IndexLaws.{at_holds, all_first, first_least, first_most, first_fails_both, stops_at}
 use Rattle.site.specs.declared.Breach.{Breach}
 use Rattle.site.specs.declared.Breach.TheVariants.{Range, Name, Number, Overlap}
 use Rattle.site.specs.declared.Fault.{Fault}

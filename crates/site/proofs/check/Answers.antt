@@ -3,7 +3,6 @@ use Rattle.site.proofs.FaultLaws.{header_faulty, user_faulty, partitions_checked
 use Rattle.site.specs.Faults.{first_user}
 use Rattle.site.specs.Rules.{good_user}
 use Rattle.rows.specs.Words.{first, fails}
-use borrow.Author.Tests.{not-true, not-false}
 use mathlib.Core.Path.{sym, ap, ◌∙◌}
 use native.Mathlib.Omega.{arith}
 use lib.Dec.{lit≤}

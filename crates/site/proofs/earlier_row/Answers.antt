@@ -4,7 +4,6 @@ use Rattle.site.proofs.FaultLaws.{checked_case, known}
 use Rattle.rows.specs.Words.{first}
 use mathlib.Core.Path.{refl, ap, ◌∙◌}
 use native.Mathlib.Omega.{arith}
-use borrow.Author.Rules.{rules}
 use Rattle.site.proofs.earlier_row.Goals as goal
 
 pub earlier_name-requires : goal.earlier_name-requires
@@ -15,7 +14,7 @@ earlier_name-requires c =
 pub earlier_clash-requires : goal.earlier_clash-requires
 earlier_clash-requires c =
     let at = known _ (checked_case _ (c.requires ∙ ap Faulty c.in-InPartition.is)) in
-    ((at.0.whole, at.1), at.2)
+    record { file_len = (at.0.whole, at.1); j_value = at.2 }
 
 pub returns-in-InHeader : goal.returns-in-InHeader
 unfolding earlier_row fault_row first

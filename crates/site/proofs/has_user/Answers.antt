@@ -20,9 +20,9 @@ find_name-i-requires c = (omega (arith, c.users-n.ensures.0, (site_header c.args
 pub returns-then-n-i : goal.returns-then-n-i
 returns-then-n-i c = let a = c.args in
     let n = c.users-n.ensures.0 in
-    let e = c.find_name-i.ensures ∙ ap (first (user_named a.file.now a.t2)) n in
-    let miss : users a.file.now ≤ first (user_named a.file.now a.t2) (users a.file.now) = omega (arith, e, n, c.if-n-i.true) in
-    record { answer = sym (no_user a.file.now a.t2 a.t3 (missing_if _ _ miss)) }
+    let e = c.find_name-i.ensures ∙ ap (first (user_named a.file.now a.name)) n in
+    let miss : users a.file.now ≤ first (user_named a.file.now a.name) (users a.file.now) = omega (arith, e, n, c.if-n-i.true) in
+    record { answer = sym (no_user a.file.now a.name a.password (missing_if _ _ miss)) }
 
 pub password_is-requires : goal.password_is-requires
 password_is-requires c = omega (arith, c.users-n.ensures.0, c.if-n-i.false, (site_header c.args.file.now c.requires).whole)
@@ -30,6 +30,6 @@ password_is-requires c = omega (arith, c.users-n.ensures.0, c.if-n-i.false, (sit
 pub returns : goal.returns
 returns c = let a = c.args in
     let n = c.users-n.ensures.0 in
-    let e = c.find_name-i.ensures ∙ ap (first (user_named a.file.now a.t2)) n in
-    let hit : first (user_named a.file.now a.t2) (users a.file.now) < users a.file.now = omega (arith, e, n, c.if-n-i.false) in
-    record { answer = c.password_is.ensures ∙ ap (λ (i : ℕ). same (user_password a.file.now i) a.t3) e ∙ sym (the_user a.file.now a.t2 a.t3 c.requires (found_if _ _ hit)) }
+    let e = c.find_name-i.ensures ∙ ap (first (user_named a.file.now a.name)) n in
+    let hit : first (user_named a.file.now a.name) (users a.file.now) < users a.file.now = omega (arith, e, n, c.if-n-i.false) in
+    record { answer = c.password_is.ensures ∙ ap (λ (i : ℕ). same (user_password a.file.now i) a.password) e ∙ sym (the_user a.file.now a.name a.password c.requires (found_if _ _ hit)) }

@@ -1,6 +1,5 @@
 use Rattle.site.proofs.FaultLaws.{checked_good, checked_is}
 use mathlib.Core.Path.{sym, ◌∙◌}
-use borrow.Author.Rules.{rules}
 use Rattle.site.proofs.is_good.Goals as goal
 
 pub returns-in-Good : goal.returns-in-Good

@@ -1,6 +1,5 @@
 use Rattle.site.proofs.RuleLaws.{site_header}
 use native.Mathlib.Omega.{arith}
-use borrow.Author.Rules.{rules}
 use Rattle.site.proofs.partition_count.Goals as goal
 
 pub partitions-requires : goal.partitions-requires

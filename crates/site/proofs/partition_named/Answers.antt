@@ -21,4 +21,4 @@ find_name-requires c = (omega (arith, c.partitions_from.ensures, c.partitions-n.
 pub returns : goal.returns
 unfolding index_of_name
 returns c = let a = c.args in
-    record { answer = c.find_name.ensures ∙ ap₂ (λ (from n : ℕ). first (named_at a.file.now from 24 a.t2) n) c.partitions_from.ensures c.partitions-n.ensures.0 }
+    record { answer = c.find_name.ensures ∙ ap₂ (λ (from n : ℕ). first (named_at a.file.now from 24 a.name) n) c.partitions_from.ensures c.partitions-n.ensures.0 }

@@ -2,7 +2,6 @@ use Rattle.site.specs.Places.{placed_by}
 use Rattle.site.specs.declared.Located.TheVariants.{At, Faulty}
 use Rattle.site.proofs.FaultLaws.{checked_good, checked_is}
 use mathlib.Core.Path.{sym, ap, ◌∙◌}
-use borrow.Author.Rules.{rules}
 use Rattle.site.proofs.place.Goals as goal
 
 pub place_in-requires : goal.place_in-requires

@@ -6,7 +6,6 @@ use Rattle.site.proofs.RuleLaws.{site_partition}
 use Rattle.site.specs.Places.{placed_in, placed_on}
 use borrow.Author.Tests.{lt-ltb, le-ltb}
 use native.Mathlib.Omega.{arith}
-use borrow.Author.Rules.{rules}
 use Rattle.site.proofs.place_in.Goals as goal
 
 pub partition_row-requires : goal.partition_row-requires

@@ -1,10 +1,8 @@
 use Rattle.site.proofs.PlaceLaws.{place_ends}
 use Rattle.site.proofs.RuleLaws.{ranged_is}
 use Rattle.site.specs.Places.{inside, place_on, placed_on}
-use borrow.Author.Tests.{not-true, not-false}
 use mathlib.Core.Path.{sym, ◌∙◌}
 use native.Mathlib.Omega.{arith}
-use borrow.Author.Rules.{rules}
 use Rattle.site.proofs.place_on.Goals as goal
 
 pub is_inside-requires : goal.is_inside-requires

@@ -2,7 +2,6 @@ use Rattle.site.specs.Shortcuts.{name_hash}
 use Rattle.rows.specs.Marks.{hash}
 use Prim.Native.Nat.{ℕ, ◌/◌, ◌%◌}
 use mathlib.Core.Path.{ap, ◌∙◌}
-use borrow.Author.Rules.{rules}
 use Rattle.site.proofs.hashes.name_hash.Goals as goal
 
 pub returns : goal.returns

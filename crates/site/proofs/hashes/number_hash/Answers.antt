@@ -2,7 +2,6 @@ use Rattle.site.specs.Layout.{row_at}
 use Rattle.site.specs.Shortcuts.{number_hash}
 use mathlib.Core.Path.{sym}
 use native.Mathlib.Omega.{arith}
-use borrow.Author.Rules.{rules}
 use Rattle.site.proofs.hashes.number_hash.Goals as goal
 
 pub returns : goal.returns

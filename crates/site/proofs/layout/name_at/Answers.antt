@@ -1,5 +1,4 @@
 use Rattle.site.specs.Layout.{name_at}
-use borrow.Author.Rules.{rules}
 use Rattle.site.proofs.layout.name_at.Goals as goal
 
 pub returns : goal.returns

@@ -1,8 +1,7 @@
 use Rattle.site.specs.Layout.{partitions}
 use native.Mathlib.Omega.{arith}
-use borrow.Author.Rules.{rules}
 use Rattle.site.proofs.layout.partitions.Goals as goal
 
 pub returns : goal.returns
 unfolding partitions
-returns c = (c.two_at.ensures, omega (arith, c.two_at.type-inv))
+returns c = (c.two_at.ensures, omega (arith, c.two_at.type_inv))

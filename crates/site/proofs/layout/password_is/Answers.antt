@@ -3,7 +3,6 @@ use Rattle.rows.specs.Words.{same}
 use Prim.Native.Nat.{ℕ}
 use mathlib.Core.List.{List}
 use mathlib.Core.Path.{ap, ◌∙◌}
-use borrow.Author.Rules.{rules}
 use Rattle.site.proofs.layout.password_is.Goals as goal
 
 pub returns : goal.returns

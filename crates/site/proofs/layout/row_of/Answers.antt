@@ -1,5 +1,4 @@
 use Rattle.site.specs.Layout.{row_at}
-use borrow.Author.Rules.{rules}
 use Rattle.site.proofs.layout.row_of.Goals as goal
 
 pub returns : goal.returns

@@ -1,7 +1,6 @@
 use Rattle.site.proofs.RuleLaws.{ranged_is}
 use Rattle.site.specs.Shortcuts.{past, passing}
 use native.Mathlib.Omega.{arith}
-use borrow.Author.Rules.{rules}
 use Rattle.site.proofs.overlaps.pass.Goals as goal
 
 pub sectors-requires : goal.sectors-requires

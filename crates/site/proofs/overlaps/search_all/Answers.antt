@@ -1,17 +1,15 @@
 use Rattle.site.specs.Rules.{apart}
-use Rattle.rows.proofs.IndexLaws.{Searching, search_starts, search_on, search_hit, search_ends, fails_at, holds_at, found_if, missing_if}
-use Rattle.rows.specs.Words.{fails}
+use Rattle.rows.proofs.IndexLaws.{search_starts, search_on, search_hit, search_ends, fails_at, holds_at, found_if, missing_if}
 use mathlib.Core.Bool.{not}
 use mathlib.Core.Path.{ap}
 use native.Mathlib.Omega.{arith}
-use Prim.Native.Nat.{◌-◌}
 use Rattle.site.proofs.overlaps.search_all.Goals as goal
 
 pub loop-i-init : goal.loop-i-init
 loop-i-init c = search_starts _ _
 
 pub find_overlap-j-requires : goal.find_overlap-j-requires
-find_overlap-j-requires c = ((c.requires.from_value.0, omega arith), λ j l. c.requires.by_index j (omega arith))
+find_overlap-j-requires c = record { from_value = (c.requires.from_value.0, omega arith); by_index = λ j l. c.requires.by_index j (omega arith) }
 
 pub returns-then-j-i : goal.returns-then-j-i
 unfolding apart

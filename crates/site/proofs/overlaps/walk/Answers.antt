@@ -1,14 +1,13 @@
 use Rattle.site.specs.Layout.{partition_row}
 use Rattle.site.specs.Rules.{ranged}
 use Rattle.site.specs.Shortcuts.{past, passing}
-use borrow.Author.Tests.{not-false}
-use Rattle.site.proofs.EndLaws.{Walked, walk_starts, walk_on, walk_ends}
+use Rattle.site.proofs.EndLaws.{walk_starts, walk_on, walk_ends}
 use Rattle.rows.proofs.BoolLaws.{both}
 use lib.ListN.{get_or}
 use mathlib.Core.Bool.{true}
 use mathlib.Core.Path.{◌≡◌, refl, sym, ap, ◌∙◌}
 use native.Mathlib.Omega.{arith}
-use Prim.Native.Nat.{ℕ, ◌-◌, ◌≤◌}
+use Prim.Native.Nat.{ℕ}
 use Rattle.site.proofs.overlaps.walk.Goals as goal
 
 pub loop-k-init : goal.loop-k-init

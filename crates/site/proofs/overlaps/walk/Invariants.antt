@@ -1,14 +1,6 @@
-use Rattle.site.specs.Layout.{partition_row}
-use Rattle.site.specs.Rules.{ranged}
-use Rattle.site.specs.Shortcuts.{past, passing}
-use borrow.Author.Tests.{not-false}
-use Rattle.site.proofs.EndLaws.{Walked, walk_starts, walk_on, walk_ends}
-use Rattle.rows.proofs.BoolLaws.{both}
+use Rattle.site.proofs.EndLaws.{Walked}
 use lib.ListN.{get_or}
-use mathlib.Core.Bool.{true}
-use mathlib.Core.Path.{◌≡◌, refl, sym, ap, ◌∙◌}
-use native.Mathlib.Omega.{arith}
-use Prim.Native.Nat.{ℕ, ◌-◌, ◌≤◌}
+use Prim.Native.Nat.{◌-◌, ◌≤◌}
 use Rattle.site.proofs.overlaps.walk.Given as goal
 
 abbrev pub invariant-loop-k : goal.invariant-loop-k

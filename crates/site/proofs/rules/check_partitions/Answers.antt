@@ -5,7 +5,6 @@ use Rattle.site.specs.declared.Checked.TheVariants.{Faulty}
 use mathlib.Core.Path.{ap, ◌∙◌}
 use native.Mathlib.Omega.{arith}
 use Prim.Native.Nat.{ℕ}
-use borrow.Author.Rules.{rules}
 use Rattle.site.proofs.rules.check_partitions.Goals as goal
 
 pub returns-then-left : goal.returns-then-left

@@ -1,17 +1,12 @@
 use Rattle.site.proofs.NameLaws.{name_long, unseen_alone}
-use Rattle.site.specs.Layout.{name_at}
-use Rattle.site.specs.Rules.{name_alone}
 use Rattle.site.specs.Shortcuts.{name_hash}
 use Rattle.rows.proofs.RowLaws.{row_end}
 use lib.ListN.{length}
-use Rattle.rows.proofs.IndexLaws.{Searching, search_starts, search_on, search_hit, search_ends, fails_at, holds_at}
-use Rattle.rows.specs.Words.{fails}
-use Rattle.rows.proofs.MarkLaws.{Marked, mark_starts, mark_adds}
+use Rattle.rows.proofs.IndexLaws.{search_starts, search_on, search_hit, search_ends, fails_at, holds_at}
+use Rattle.rows.proofs.MarkLaws.{mark_starts, mark_adds}
 use Rattle.rows.specs.Marks.{marked}
-use borrow.Author.Tests.{not-true, not-false}
 use mathlib.Core.Path.{refl, sym, ap, ◌∙◌}
 use native.Mathlib.Omega.{arith}
-use Prim.Native.Nat.{◌-◌}
 use Rattle.site.proofs.rules.first_name_repeated.Goals as goal
 
 pub loop-i-init : goal.loop-i-init
@@ -38,18 +33,20 @@ name_alone-requires c =
     let a = c.args in
     let map = c.loop-i.map in
     let here = c.name_hash.ensures.0 ∙ ap name_hash c.name_at-key.ensures in
-    ((omega (arith, row_end a.w c.loop-i-test.true), omega arith), λ new. unseen_alone 32 a.file.now a.from a.w map c.loop-i.i (λ j. (c.shared_slice_known-1.given j).fits) (omega (arith, row_end a.w c.loop-i-test.true)) (omega arith) c.loop-i.invariant.1 (ap (marked map) (sym here) ∙ sym c.mark-seen.ensures.0 ∙ new))
+    record {
+      w_in_bounds = (omega (arith, row_end a.w c.loop-i-test.true), omega arith);
+      i_value = λ new. unseen_alone 32 a.file.now a.from a.w map c.loop-i.i (λ j. (c.shared_slice_known-1.given j).fits) (omega (arith, row_end a.w c.loop-i-test.true)) (omega arith) c.loop-i.invariant.1 (ap (marked map) (sym here) ∙ sym c.mark-seen.ensures.0 ∙ new);
+    }
 
 pub returns-then-not-name_alone : goal.returns-then-not-name_alone
 returns-then-not-name_alone c =
     search_hit _ _ c.loop-i.invariant.0 c.loop-i-test.true (fails_at _ (sym c.name_alone.ensures ∙ c.if-not-name_alone.true))
 
 pub loop-i-preserved : goal.loop-i-preserved
-loop-i-preserved c =
-    (
-      search_on _ _ c.loop-i.invariant.0 c.loop-i-test.true (holds_at _ (sym c.name_alone.ensures ∙ c.if-not-name_alone.false)),
-      mark_adds _ _ _ c.loop-i.invariant.1 (c.name_hash.ensures.0 ∙ ap name_hash c.name_at-key.ensures) (omega (arith, c.name_hash.ensures.1)) c.mark-seen.ensures.1,
-    )
+loop-i-preserved c = (
+  search_on _ _ c.loop-i.invariant.0 c.loop-i-test.true (holds_at _ (sym c.name_alone.ensures ∙ c.if-not-name_alone.false)),
+  mark_adds _ _ _ c.loop-i.invariant.1 (c.name_hash.ensures.0 ∙ ap name_hash c.name_at-key.ensures) (omega (arith, c.name_hash.ensures.1)) c.mark-seen.ensures.1,
+)
 
 pub returns : goal.returns
 returns c = search_ends _ _ c.loop-i.invariant.0 c.loop-i-test.false

@@ -1,14 +1,9 @@
 use Rattle.site.proofs.NameLaws.{unseen_number}
-use Rattle.site.specs.Rules.{number_alone}
-use Rattle.site.specs.Shortcuts.{number_hash}
-use Rattle.rows.proofs.IndexLaws.{Searching, search_starts, search_on, search_hit, search_ends, fails_at, holds_at}
-use Rattle.rows.specs.Words.{fails}
-use Rattle.rows.proofs.MarkLaws.{Marked, mark_starts, mark_adds}
+use Rattle.rows.proofs.IndexLaws.{search_starts, search_on, search_hit, search_ends, fails_at, holds_at}
+use Rattle.rows.proofs.MarkLaws.{mark_starts, mark_adds}
 use Rattle.rows.specs.Marks.{marked}
-use borrow.Author.Tests.{not-true, not-false}
 use mathlib.Core.Path.{refl, sym, ap, ◌∙◌}
 use native.Mathlib.Omega.{arith}
-use Prim.Native.Nat.{◌-◌}
 use Rattle.site.proofs.rules.first_number_repeated.Goals as goal
 
 pub loop-i-init : goal.loop-i-init
@@ -26,18 +21,20 @@ mark-seen-requires c = omega (arith, c.number_hash.ensures.1, c.loop-i.invariant
 pub number_alone-requires : goal.number_alone-requires
 number_alone-requires c =
     let map = c.loop-i.map in
-    ((c.requires.0, omega arith), λ new. unseen_number 8 c.args.file.now map c.loop-i.i c.loop-i.invariant.1 (ap (marked map) (sym c.number_hash.ensures.0) ∙ sym c.mark-seen.ensures.0 ∙ new))
+    record {
+      from_value = (c.requires.0, omega arith);
+      i_value = λ new. unseen_number 8 c.args.file.now map c.loop-i.i c.loop-i.invariant.1 (ap (marked map) (sym c.number_hash.ensures.0) ∙ sym c.mark-seen.ensures.0 ∙ new);
+    }
 
 pub returns-then-not-number_alone : goal.returns-then-not-number_alone
 returns-then-not-number_alone c =
     search_hit _ _ c.loop-i.invariant.0 c.loop-i-test.true (fails_at _ (sym c.number_alone.ensures ∙ c.if-not-number_alone.true))
 
 pub loop-i-preserved : goal.loop-i-preserved
-loop-i-preserved c =
-    (
-      search_on _ _ c.loop-i.invariant.0 c.loop-i-test.true (holds_at _ (sym c.number_alone.ensures ∙ c.if-not-number_alone.false)),
-      mark_adds _ _ _ c.loop-i.invariant.1 c.number_hash.ensures.0 (omega (arith, c.number_hash.ensures.1)) c.mark-seen.ensures.1,
-    )
+loop-i-preserved c = (
+  search_on _ _ c.loop-i.invariant.0 c.loop-i-test.true (holds_at _ (sym c.number_alone.ensures ∙ c.if-not-number_alone.false)),
+  mark_adds _ _ _ c.loop-i.invariant.1 c.number_hash.ensures.0 (omega (arith, c.number_hash.ensures.1)) c.mark-seen.ensures.1,
+)
 
 pub returns : goal.returns
 returns c = search_ends _ _ c.loop-i.invariant.0 c.loop-i-test.false

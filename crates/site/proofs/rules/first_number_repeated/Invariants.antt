@@ -1,13 +1,8 @@
-use Rattle.site.proofs.NameLaws.{unseen_number}
 use Rattle.site.specs.Rules.{number_alone}
 use Rattle.site.specs.Shortcuts.{number_hash}
-use Rattle.rows.proofs.IndexLaws.{Searching, search_starts, search_on, search_hit, search_ends, fails_at, holds_at}
+use Rattle.rows.proofs.IndexLaws.{Searching}
 use Rattle.rows.specs.Words.{fails}
-use Rattle.rows.proofs.MarkLaws.{Marked, mark_starts, mark_adds}
-use Rattle.rows.specs.Marks.{marked}
-use borrow.Author.Tests.{not-true, not-false}
-use mathlib.Core.Path.{refl, sym, ap, ◌∙◌}
-use native.Mathlib.Omega.{arith}
+use Rattle.rows.proofs.MarkLaws.{Marked}
 use Prim.Native.Nat.{◌-◌}
 use Rattle.site.proofs.rules.first_number_repeated.Given as goal
 

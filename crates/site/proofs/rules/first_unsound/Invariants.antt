@@ -1,9 +1,6 @@
 use Rattle.site.specs.Rules.{sound}
-use Rattle.rows.proofs.IndexLaws.{Searching, search_starts, search_on, search_hit, search_ends, fails_at, holds_at}
+use Rattle.rows.proofs.IndexLaws.{Searching}
 use Rattle.rows.specs.Words.{fails}
-use borrow.Author.Tests.{not-true, not-false}
-use mathlib.Core.Path.{sym, ◌∙◌}
-use native.Mathlib.Omega.{arith}
 use Prim.Native.Nat.{◌-◌}
 use Rattle.site.proofs.rules.first_unsound.Given as goal
 

@@ -8,7 +8,6 @@ use Rattle.site.specs.Layout.{user_offset, partition_offset}
 use Rattle.rows.proofs.BoolLaws.{refuted}
 use borrow.Author.Tests.{le-leb, eq-eqb}
 use native.Mathlib.Omega.{arith}
-use borrow.Author.Rules.{rules}
 use Rattle.site.proofs.rules.header_good.Goals as goal
 
 pub returns-then-file-lt8 : goal.returns-then-file-lt8

@@ -1,9 +1,7 @@
 use Rattle.site.specs.Rules.{number_alone}
 use Rattle.rows.proofs.IndexLaws.{first_misses}
-use borrow.Author.Tests.{not-true}
 use lib.Dec.{leb}
 use mathlib.Core.Path.{sym, ap, ◌∙◌}
-use borrow.Author.Rules.{rules}
 use Rattle.site.proofs.rules.number_alone.Goals as goal
 
 pub returns-then-not-seen : goal.returns-then-not-seen

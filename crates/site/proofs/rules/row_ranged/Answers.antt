@@ -4,7 +4,6 @@ use borrow.Author.Tests.{leb-true, le-leb}
 use Prim.Native.Nat.{◌+◌, ◌-◌}
 use Rattle.site.proofs.RuleLaws.{ranged_is}
 use native.Mathlib.Omega.{arith}
-use borrow.Author.Rules.{rules}
 use Rattle.site.proofs.rules.row_ranged.Goals as goal
 
 pub returns-then-r-gt3 : goal.returns-then-r-gt3

@@ -1,7 +1,5 @@
 use Rattle.site.specs.Rules.{sound, ranged}
 use mathlib.Core.Path.{ap, sym, ◌∙◌}
-use borrow.Author.Tests.{not-true, not-false}
-use borrow.Author.Rules.{rules}
 use Rattle.site.proofs.rules.row_sound.Goals as goal
 
 pub returns-then-not-row_ranged : goal.returns-then-not-row_ranged

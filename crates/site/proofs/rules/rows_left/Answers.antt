@@ -6,7 +6,6 @@ use Rattle.rows.specs.Words.{first, fails}
 use mathlib.Core.Path.{ap, ap₂, ◌∙◌}
 use native.Mathlib.Omega.{arith}
 use Prim.Native.Nat.{ℕ}
-use borrow.Author.Rules.{rules}
 use Rattle.site.proofs.rules.rows_left.Goals as goal
 
 pub first_name_repeated-named-requires : goal.first_name_repeated-named-requires
@@ -25,10 +24,11 @@ first_overlap-apart-requires c =
     let rows = c.partitions-rows in
     let few = first_most (fails (sound f)) rows.result in
     let fewer = first_most (fails (name_alone f c.partitions_from-from.result 24)) c.first_unsound-ranged.result in
-    let fewest = first_most (fails (number_alone f)) c.first_name_repeated-named.result in (
-      (c.partitions_from-from.ensures, omega (arith, c.partitions_from-from.ensures, rows.ensures.0, c.first_unsound-ranged.ensures, few, c.first_name_repeated-named.ensures, fewer, c.first_number_repeated-numbered.ensures, fewest), omega (arith, rows.ensures.0, c.first_unsound-ranged.ensures, few, c.first_name_repeated-named.ensures, fewer, c.first_number_repeated-numbered.ensures, fewest)),
-      λ i l. sound_ranged f i (at_holds (sound f) i (first_least (fails (sound f)) rows.result i (omega (arith, c.first_unsound-ranged.ensures, c.first_name_repeated-named.ensures, fewer, c.first_number_repeated-numbered.ensures, fewest)))),
-    )
+    let fewest = first_most (fails (number_alone f)) c.first_name_repeated-named.result in
+    record {
+      from_value = (c.partitions_from-from.ensures, omega (arith, c.partitions_from-from.ensures, rows.ensures.0, c.first_unsound-ranged.ensures, few, c.first_name_repeated-named.ensures, fewer, c.first_number_repeated-numbered.ensures, fewest), omega (arith, rows.ensures.0, c.first_unsound-ranged.ensures, few, c.first_name_repeated-named.ensures, fewer, c.first_number_repeated-numbered.ensures, fewest));
+      by_index = λ i l. sound_ranged f i (at_holds (sound f) i (first_least (fails (sound f)) rows.result i (omega (arith, c.first_unsound-ranged.ensures, c.first_name_repeated-named.ensures, fewer, c.first_number_repeated-numbered.ensures, fewest))));
+    }
 
 pub returns : goal.returns
 unfolding left_by_range left_by_name left_by_number left_by_overlap

@@ -1,7 +1,6 @@
 use Rattle.site.specs.Layout.{spare_at}
 use Rattle.rows.specs.Words.{zeros}
 use mathlib.Core.Path.{ap, ◌∙◌}
-use borrow.Author.Rules.{rules}
 use Rattle.site.proofs.rules.spare_zero.Goals as goal
 
 pub returns : goal.returns

@@ -6,12 +6,11 @@ use Rattle.rows.specs.Words.{first}
 use mathlib.Core.Path.{refl, sym, ap, ◌∙◌}
 use native.Mathlib.Omega.{arith}
 use Prim.Native.Nat.{ℕ}
-use borrow.Author.Rules.{rules}
 use Rattle.site.proofs.search.earlier_clash.Goals as goal
 
 pub find_overlap-requires : goal.find_overlap-requires
 find_overlap-requires c =
-    ((c.partitions_from-from.ensures, omega (arith, c.partitions_from-from.ensures, c.requires.file_len)), λ j l. c.requires.j_value c.in-Overlap.is j l)
+    record { from_value = (c.partitions_from-from.ensures, omega (arith, c.partitions_from-from.ensures, c.requires.file_len)); by_index = λ j l. c.requires.j_value c.in-Overlap.is j l }
 
 pub returns-in-Range : goal.returns-in-Range
 unfolding earlier_row fault_row clashes

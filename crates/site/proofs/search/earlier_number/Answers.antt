@@ -3,7 +3,6 @@ use Rattle.site.specs.declared.PartitionRow.{PartitionRow}
 use Rattle.rows.specs.Words.{first}
 use mathlib.Core.Path.{ap, ◌∙◌}
 use native.Mathlib.Omega.{arith}
-use borrow.Author.Rules.{rules}
 use Rattle.site.proofs.search.earlier_number.Goals as goal
 
 pub find_number-requires : goal.find_number-requires

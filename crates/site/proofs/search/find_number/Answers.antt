@@ -1,8 +1,6 @@
-use Rattle.site.specs.Rules.{partition_numbered}
-use Rattle.rows.proofs.IndexLaws.{Searching, search_starts, search_on, search_hit, search_ends}
+use Rattle.rows.proofs.IndexLaws.{search_starts, search_on, search_hit, search_ends}
 use native.Mathlib.Omega.{arith}
 use mathlib.Core.Path.{sym, ◌∙◌}
-use Prim.Native.Nat.{◌-◌}
 use Rattle.site.proofs.search.find_number.Goals as goal
 
 pub loop-i-init : goal.loop-i-init

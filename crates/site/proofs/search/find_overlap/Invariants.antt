@@ -1,7 +1,5 @@
 use Rattle.site.specs.Rules.{partitions_overlap}
-use Rattle.rows.proofs.IndexLaws.{Searching, search_starts, search_on, search_hit, search_ends}
-use mathlib.Core.Path.{sym, ◌∙◌}
-use native.Mathlib.Omega.{arith}
+use Rattle.rows.proofs.IndexLaws.{Searching}
 use Prim.Native.Nat.{◌-◌}
 use Rattle.site.proofs.search.find_overlap.Given as goal
 

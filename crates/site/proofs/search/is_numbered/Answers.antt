@@ -2,7 +2,6 @@ use Rattle.site.specs.Rules.{numbered, partition_numbered}
 use Rattle.site.specs.Layout.{row_at}
 use mathlib.Core.Path.{sym}
 use borrow.Author.Tests.{eq-eqb, ne_eqb}
-use borrow.Author.Rules.{rules}
 use Rattle.site.proofs.search.is_numbered.Goals as goal
 
 pub returns-then-file-at : goal.returns-then-file-at

@@ -3,7 +3,6 @@ use Rattle.site.specs.Layout.{row_at}
 use Rattle.site.specs.Rules.{meet}
 use borrow.Author.Tests.{le-ltb, lt-ltb}
 use native.Mathlib.Omega.{arith}
-use borrow.Author.Rules.{rules}
 use Rattle.site.proofs.search.rows_meet.Goals as goal
 
 pub sectors-requires : goal.sectors-requires

@@ -1,5 +1,4 @@
 use borrow.Author.Tests.{lt-ltb, le-ltb, le-leb, lt-leb}
-use borrow.Author.Rules.{rules}
 use Rattle.site.proofs.sizes.is_inside.Goals as goal
 
 pub returns-then-tracks-track : goal.returns-then-tracks-track

@@ -1,6 +1,5 @@
 use Rattle.site.specs.Rules.{sectors}
 use native.Mathlib.Omega.{arith}
-use borrow.Author.Rules.{rules}
 use Rattle.site.proofs.sizes.sectors.Goals as goal
 
 pub returns : goal.returns

@@ -4,7 +4,6 @@ use lib.Pow.{pow_mono}
 use mathlib.Core.Path.{◌≡◌, ap, ◌∙◌}
 use native.Mathlib.Omega.{arith}
 use Rattle.site.specs.Rules.{tracks}
-use borrow.Author.Rules.{rules}
 use Rattle.site.proofs.sizes.tracks.Goals as goal
 
 doubled : (n : ℕ) → 1 ≤ n → 2 ^ n ≡ 2 * 2 ^ (n - 1)
