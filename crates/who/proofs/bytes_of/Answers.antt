@@ -9,24 +9,13 @@ use native.Mathlib.Omega.{arith}
 use borrow.Author.Rules.{rules}
 use Rattle.who.proofs.bytes_of.Goals as goal
 
--- the lengths of the fields as they came
-name_long : (c : tie.Start) → length c.args.s.name ≡ 8
-name_long c = search rules
-
-serial_long : (c : tie.Start) → length c.args.s.serial ≡ 4
-serial_long c = search rules
-
-pub put-requires-2 : goal.put-requires-2
-put-requires-2 c = let full = name_long c in search rules
-
-pub put-requires-3 : goal.put-requires-3
-put-requires-3 c = let full = serial_long c in search rules
-
 pub returns : goal.returns
 unfolding bytes_of low_bytes
-returns c = let s = c.args.s in
-    let name = name_long c in
-    let serial = serial_long c in
+returns c =
+    let s = c.args.s in
+    -- the lengths of the fields as they came
+    let name : length s.name ≡ 8 = search rules in
+    let serial : length s.serial ≡ 4 = search rules in
     let logged = c.flag_of in
     let found = c.flag_of-2 in
     c.put-4.ensures

@@ -1,6 +1,5 @@
 use Rattle.who.proofs.WhoLaws.{fresh_made}
 use mathlib.Core.Path.{◌∙◌}
-use borrow.Author.Rules.{rules}
 use Rattle.who.proofs.fresh.Goals as goal
 
 pub returns : goal.returns

@@ -2,7 +2,6 @@ use Rattle.who.specs.Logins.{free_number}
 use borrow.Author.Tests.{le-leb, lt-leb}
 use mathlib.Core.Path.{ap}
 use mathlib.Core.Bool.{not}
-use borrow.Author.Rules.{rules}
 use Rattle.who.proofs.is_free.Goals as goal
 
 pub returns-then-n-lt1 : goal.returns-then-n-lt1

@@ -1,6 +1,5 @@
 use Rattle.who.specs.Logins.{logged_in}
 use borrow.Author.Tests.{lt-ltb, le-ltb}
-use borrow.Author.Rules.{rules}
 use Rattle.who.proofs.is_in.Goals as goal
 
 pub returns-then-n-records : goal.returns-then-n-records

@@ -1,7 +1,6 @@
 use Rattle.who.specs.Good.{plain}
-use borrow.Author.Tests.{eq-eqb, ne_eqb, not-true, not-false}
+use borrow.Author.Tests.{eq-eqb, ne_eqb}
 use mathlib.Core.Path.{sym, ◌∙◌}
-use borrow.Author.Rules.{rules}
 use Rattle.who.proofs.is_plain.Goals as goal
 
 pub returns-then-s-ne0 : goal.returns-then-s-ne0

@@ -1,5 +1,4 @@
 use Rattle.who.specs.Logins.{after_logout}
-use borrow.Author.Rules.{rules}
 use Rattle.who.proofs.log_out.Goals as goal
 
 pub returns : goal.returns

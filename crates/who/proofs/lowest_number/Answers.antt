@@ -1,9 +1,6 @@
-use Rattle.who.specs.Logins.{record_count, free_number, lowest_number}
-use Rattle.rows.proofs.IndexLaws.{Searching, search_starts, search_on, search_hit, search_ends}
-use borrow.Author.Rules.{rules}
+use Rattle.who.specs.Logins.{lowest_number}
+use Rattle.rows.proofs.IndexLaws.{search_starts, search_on, search_hit, search_ends}
 use mathlib.Core.Path.{sym, ◌∙◌}
-use native.Mathlib.Omega.{arith}
-use Prim.Native.Nat.{◌-◌}
 use Rattle.who.proofs.lowest_number.Goals as goal
 
 pub loop-n-init : goal.loop-n-init

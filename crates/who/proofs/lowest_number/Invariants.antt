@@ -1,8 +1,5 @@
-use Rattle.who.specs.Logins.{record_count, free_number, lowest_number}
-use Rattle.rows.proofs.IndexLaws.{Searching, search_starts, search_on, search_hit, search_ends}
-use borrow.Author.Rules.{rules}
-use mathlib.Core.Path.{sym, ◌∙◌}
-use native.Mathlib.Omega.{arith}
+use Rattle.who.specs.Logins.{record_count, free_number}
+use Rattle.rows.proofs.IndexLaws.{Searching}
 use Prim.Native.Nat.{◌-◌}
 use Rattle.who.proofs.lowest_number.Given as goal
 

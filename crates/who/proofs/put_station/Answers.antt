@@ -1,6 +1,5 @@
 use Rattle.rows.specs.Rows.{set_row}
 use mathlib.Core.Path.{ap, ◌∙◌}
-use borrow.Author.Rules.{rules}
 use Rattle.who.proofs.put_station.Goals as goal
 
 pub returns : goal.returns

@@ -3,7 +3,6 @@ use Rattle.rows.proofs.RowLaws.{get_d_part, part_part}
 use lib.Dec.{lit<, lit≤}
 use native.Mathlib.Nat.{add-zero}
 use Prim.Native.Nat.{◌*◌}
-use borrow.Author.Rules.{rules}
 use Rattle.who.proofs.station_at.Goals as goal
 
 pub returns : goal.returns

@@ -4,7 +4,6 @@ use Rattle.rows.proofs.BoolLaws.{and_fails}
 use borrow.Author.Tests.{eq-eqb, ne_eqb}
 use mathlib.Core.Bool.{and-true}
 use mathlib.Core.Path.{refl, sym}
-use borrow.Author.Rules.{rules}
 use Rattle.who.proofs.station_good.Goals as goal
 
 pub returns-then-s : goal.returns-then-s

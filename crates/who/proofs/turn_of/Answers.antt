@@ -1,12 +1,11 @@
 use Rattle.who.proofs.RecordLaws.{counts_is}
 use Rattle.who.specs.Turns.{misses_after, slow_after, is_out, turn_of}
 use Rattle.rows.proofs.BoolLaws.{iff}
-use borrow.Author.Tests.{eqb-true, eq-eqb, ne_eqb, not-true, not-false}
+use borrow.Author.Tests.{eqb-true, eq-eqb, ne_eqb}
 use lib.Dec.{eqb}
 use Prim.Native.Nat.{◌+◌}
 use mathlib.Core.Path.{◌≡◌, sym, ◌∙◌}
 use native.Mathlib.Omega.{arith}
-use borrow.Author.Rules.{rules}
 use Rattle.who.proofs.turn_of.Goals as goal
 
 pub overflow_add-result : goal.overflow_add-result

@@ -3,7 +3,6 @@ use Rattle.rows.proofs.RowLaws.{get_d_part}
 use borrow.Author.Tests.{eq-eqb, ne_eqb}
 use lib.Dec.{lit<}
 use native.Mathlib.Nat.{add-zero}
-use borrow.Author.Rules.{rules}
 use Rattle.who.proofs.lent.bit_of.Goals as goal
 
 pub returns-then-records-n-eq1 : goal.returns-then-records-n-eq1

@@ -3,7 +3,6 @@ use Rattle.rows.proofs.RowLaws.{get_d_part}
 use borrow.Author.Tests.{le-leb, lt-leb}
 use lib.Dec.{lit<}
 use native.Mathlib.Nat.{add-zero}
-use borrow.Author.Rules.{rules}
 use Rattle.who.proofs.lent.is_flagged.Goals as goal
 
 pub returns-then-records-at-gt1 : goal.returns-then-records-at-gt1

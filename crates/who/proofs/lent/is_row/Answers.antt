@@ -1,11 +1,7 @@
-use Rattle.who.specs.Records.{flagged}
-use Rattle.rows.specs.Rows.{row}
-use Rattle.who.specs.Good.{numbers, is_row}
-use Rattle.rows.proofs.IndexLaws.{Passing, pass_starts, pass_on, pass_breaks, pass_ends}
-use borrow.Author.Tests.{eq-eqb, ne_eqb, not-true, not-false}
+use Rattle.who.specs.Good.{is_row}
+use Rattle.rows.proofs.IndexLaws.{pass_starts, pass_on, pass_breaks, pass_ends}
+use borrow.Author.Tests.{eq-eqb, ne_eqb}
 use mathlib.Core.Path.{sym, ◌∙◌}
-use native.Mathlib.Omega.{arith}
-use Prim.Native.Nat.{◌-◌}
 use Rattle.who.proofs.lent.is_row.Goals as goal
 
 pub returns-then-records-ne-BYTES : goal.returns-then-records-ne-BYTES

@@ -4,7 +4,6 @@ use Rattle.who.specs.Records.{flag}
 use borrow.Author.Tests.{not-true, not-false}
 use native.Mathlib.Nat.{zero-add}
 use mathlib.Core.Path.{sym, ◌∙◌}
-use borrow.Author.Rules.{rules}
 use Rattle.who.proofs.lent.note.Goals as goal
 
 pub returns-then-not-rest : goal.returns-then-not-rest

@@ -9,7 +9,7 @@ use Rattle.who.specs.Inner.{word_of}
 use lib.ListN.{drop, drop_of_length-le}
 use mathlib.Core.Path.{◌≡◌, sym, ap, ap₂, ◌∙◌}
 use native.Mathlib.Omega.{arith}
-use Prim.Native.Nat.{ℕ, suc, ◌+◌, ◌-◌, ◌*◌, ◌≤◌}
+use Prim.Native.Nat.{ℕ, suc, ◌+◌, ◌-◌, ◌*◌}
 use Rattle.who.proofs.lent.word_of.Goals as goal
 
 pub loop-n-init : goal.loop-n-init
