@@ -2,7 +2,6 @@ use Rattle.directory.proofs.FileLaws.{null_missing, named_begins}
 use Rattle.directory.specs.Directory.{files, null_name}
 use mathlib.Core.Path.{sym, ◌∙◌}
 use native.Mathlib.Omega.{arith}
-use borrow.Author.Rules.{rules}
 use Rattle.directory.proofs.find.Goals as goal
 
 pub returns-then-is_same : goal.returns-then-is_same

@@ -1,5 +1,4 @@
 use Rattle.directory.proofs.FileLaws.{found_there}
-use borrow.Author.Rules.{rules}
 use Rattle.directory.proofs.is_there.Goals as goal
 
 pub returns : goal.returns

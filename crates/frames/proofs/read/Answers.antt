@@ -1,7 +1,6 @@
 use mathlib.Core.Path.{sym, ◌∙◌}
 use borrow.Author.Tests.{eq-eqb, ne_eqb}
 use Rattle.frames.specs.Reading.{reading_of}
-use borrow.Author.Rules.{rules}
 use Rattle.frames.proofs.read.Goals as goal
 
 pub request_of-request-requires : goal.request_of-request-requires

@@ -2,7 +2,6 @@ use lib.ListN.{length}
 use native.Mathlib.Omega.{arith}
 use Rattle.frames.specs.Writing.{frame_of, written_of, buffer_after}
 use borrow.Author.Tests.{lt-ltb, le-ltb}
-use borrow.Author.Rules.{rules}
 use Rattle.frames.proofs.write.Goals as goal
 
 pub returns-then-buffer-length : goal.returns-then-buffer-length

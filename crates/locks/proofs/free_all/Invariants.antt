@@ -1,13 +1,9 @@
-use Prim.Native.Nat.{ℕ, ◌-◌, ◌*◌, ◌≤◌}
-use Rattle.locks.proofs.LockRowLaws.{freed_long}
-use Rattle.locks.specs.Table.{row_count, cleared_table}
+use Prim.Native.Nat.{◌-◌, ◌≤◌}
+use Rattle.locks.specs.Table.{row_count}
 use Rattle.locks.specs.Row.{freed}
-use Rattle.rows.proofs.RowLaws.{each_row_none, each_row_more, row_each_row_out}
-use Rattle.rows.specs.Rows.{row, each_row}
+use Rattle.rows.specs.Rows.{each_row}
 use lib.ListN.{length}
-use mathlib.Core.Path.{◌≡◌, refl, ap, ◌∙◌}
-use native.Mathlib.Nat.{le_antisymm}
-use native.Mathlib.Omega.{arith}
+use mathlib.Core.Path.{◌≡◌}
 use Rattle.locks.proofs.free_all.Given as goal
 
 abbrev pub invariant-loop-i : goal.invariant-loop-i

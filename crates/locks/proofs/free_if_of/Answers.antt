@@ -4,7 +4,6 @@ use Rattle.rows.proofs.RowLaws.{put_part}
 use borrow.Author.Tests.{eq-eqb, ne_eqb}
 use mathlib.Core.Path.{sym, ◌∙◌}
 use Prim.Native.Nat.{◌*◌}
-use borrow.Author.Rules.{rules}
 use Rattle.locks.proofs.free_if_of.Goals as goal
 
 pub returns-then-owner_of-who : goal.returns-then-owner_of-who

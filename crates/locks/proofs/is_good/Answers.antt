@@ -10,7 +10,7 @@ use Rattle.rows.specs.Words.{all}
 use lib.Dec.{lit≤}
 use lib.ListN.{length}
 use Prim.Native.Nat.{◌*◌, ◌≤◌}
-use borrow.Author.Tests.{eq-eqb, ne_eqb, not-true, not-false}
+use borrow.Author.Tests.{eq-eqb, ne_eqb}
 use mathlib.Core.Path.{sym, ap, ◌∙◌}
 use native.Mathlib.Omega.{arith}
 use Rattle.locks.proofs.is_good.Goals as goal
@@ -30,7 +30,7 @@ rows_alone-requires c =
     let inside = bit_at c.args.word in
     let sized : 16 * 64 ≤ length table = omega arith in
     rw c.shape.ensures
-    (sized, (lit≤ tt, λ i l used. good_normal inside (row 16 table i) (length_row 16 64 table sized i l) (unfold sound_at in all_at (sound_at inside table) 64 i (sym c.rows_good.ensures ∙ c.if-not-rows_good.false) l) used))
+    (record { n_in_bounds = sized; string_bound = lit≤ tt; by_index = λ i l used. good_normal inside (row 16 table i) (length_row 16 64 table sized i l) (unfold sound_at in all_at (sound_at inside table) 64 i (sym c.rows_good.ensures ∙ c.if-not-rows_good.false) l) used })
 
 pub returns : goal.returns
 unfolding good_locks sound_rows

@@ -1,8 +1,6 @@
-use Rattle.locks.specs.Table.{free_at, lowest_free, row_count}
-use Rattle.rows.proofs.IndexLaws.{Searching, search_starts, search_on, search_hit, search_ends}
-use native.Mathlib.Omega.{arith}
+use Rattle.locks.specs.Table.{lowest_free}
+use Rattle.rows.proofs.IndexLaws.{search_starts, search_on, search_hit, search_ends}
 use mathlib.Core.Path.{sym, ◌∙◌}
-use Prim.Native.Nat.{◌-◌}
 use Rattle.locks.proofs.lowest_free.Goals as goal
 
 pub loop-i-init : goal.loop-i-init

@@ -1,7 +1,5 @@
-use Rattle.locks.specs.Table.{free_at, lowest_free, row_count}
-use Rattle.rows.proofs.IndexLaws.{Searching, search_starts, search_on, search_hit, search_ends}
-use native.Mathlib.Omega.{arith}
-use mathlib.Core.Path.{sym, ◌∙◌}
+use Rattle.locks.specs.Table.{free_at, row_count}
+use Rattle.rows.proofs.IndexLaws.{Searching}
 use Prim.Native.Nat.{◌-◌}
 use Rattle.locks.proofs.lowest_free.Given as goal
 

@@ -3,11 +3,8 @@ use Rattle.locks.specs.Table.{owner_at, held_at, is_held}
 use Rattle.locks.specs.Row.{free_row}
 use Rattle.rows.proofs.IndexLaws.{found_if, missing_if}
 use Rattle.rows.specs.Rows.{set_row}
-use borrow.Author.Tests.{not-true, not-false}
 use mathlib.Core.Path.{sym, ap, ◌∙◌}
-use native.Mathlib.Omega.{arith}
 use Prim.Native.Nat.{ℕ}
-use borrow.Author.Rules.{rules}
 use Rattle.locks.proofs.unlock.Goals as goal
 
 pub returns-then-not-is_legal : goal.returns-then-not-is_legal

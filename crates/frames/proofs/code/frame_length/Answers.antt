@@ -1,3 +1,4 @@
+use native.Mathlib.Omega.{arith}
 use mathlib.Core.Path.{sym}
 use Rattle.frames.proofs.TableLaws.{unknown_length}
 use Rattle.frames.specs.Table.{frame_table, length_in, frame_length}
@@ -40,5 +41,4 @@ unfolding frame_length length_in frame_table
 returns-in-31 c = record { answer = rw c.in-31.is }
 
 pub returns-in_default : goal.returns-in_default
-returns-in_default c = let r = c.in_default.rest in
-    record { answer = sym (unknown_length _ r.0.0.0.0.0.0.0.0.1 r.0.0.0.0.0.0.0.1 r.0.0.0.0.0.0.1 r.0.0.0.0.0.1 r.0.0.0.0.1 r.0.0.0.1 r.0.0.1 r.0.1 r.1) }
+returns-in_default c = record { answer = sym (unknown_length _ (omega arith) (omega arith) (omega arith) (omega arith) (omega arith) (omega arith) (omega arith) (omega arith) (omega arith)) }

@@ -1,5 +1,4 @@
 use Rattle.frames.specs.Writing.{code_of}
-use borrow.Author.Rules.{rules}
 use Rattle.frames.proofs.compose.code_of.Goals as goal
 
 pub returns-in-Acknowledge : goal.returns-in-Acknowledge

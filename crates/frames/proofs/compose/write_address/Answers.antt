@@ -2,7 +2,6 @@ use mathlib.Core.Path.{◌∙◌}
 use Rattle.rows.proofs.RowLaws.{over_first}
 use Rattle.rows.specs.Numbers.{low_bytes}
 use Rattle.frames.specs.Writing.{address_fields}
-use borrow.Author.Rules.{rules}
 use Rattle.frames.proofs.compose.write_address.Goals as goal
 
 pub returns : goal.returns

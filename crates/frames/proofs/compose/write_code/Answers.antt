@@ -1,5 +1,4 @@
 use lib.Seq.{set_split}
-use borrow.Author.Rules.{rules}
 use Rattle.frames.proofs.compose.write_code.Goals as goal
 
 pub returns : goal.returns

@@ -1,6 +1,5 @@
 use mathlib.Core.Path.{◌∙◌}
 use Rattle.rows.proofs.RowLaws.{over_first}
-use borrow.Author.Rules.{rules}
 use Rattle.frames.proofs.compose.write_logout.Goals as goal
 
 pub returns : goal.returns

@@ -4,7 +4,6 @@ use Rattle.terms.specs.Strings.{string_bytes}
 use mathlib.Core.List.{[], ◌∷◌}
 use mathlib.Core.Path.{refl, ◌∙◌}
 use native.Mathlib.Omega.{arith}
-use borrow.Author.Rules.{rules}
 use Rattle.frames.proofs.compose.write_string.Goals as goal
 
 pub returns : goal.returns

@@ -1,5 +1,4 @@
 use Rattle.frames.specs.Reading.{address_in}
-use borrow.Author.Rules.{rules}
 use Rattle.frames.proofs.parse.address_of.Goals as goal
 
 pub returns : goal.returns

@@ -1,5 +1,4 @@
 use Rattle.frames.specs.Reading.{named_in, login_in}
-use borrow.Author.Rules.{rules}
 use Rattle.frames.proofs.parse.login.Goals as goal
 
 pub returns : goal.returns

@@ -1,6 +1,5 @@
 use Rattle.frames.specs.Requests.{plain}
 use Rattle.frames.specs.Reading.{named_in}
-use borrow.Author.Rules.{rules}
 use Rattle.frames.proofs.parse.named.Goals as goal
 
 pub returns : goal.returns

@@ -3,11 +3,10 @@ use Rattle.frames.specs.Table.{frame_length}
 use Rattle.frames.specs.Reading.{code, refusal_of}
 use native.Mathlib.Omega.{arith}
 use mathlib.Core.Path.{sym, ◌∙◌}
-use borrow.Author.Tests.{eq-eqb, ne_eqb, not-true, not-false}
+use borrow.Author.Tests.{eq-eqb, ne_eqb}
 use Rattle.rows.proofs.BoolLaws.{both}
 use Rattle.frames.proofs.ReadLaws.{is_well}
 use Rattle.frames.proofs.TableLaws.{address_long}
-use borrow.Author.Rules.{rules}
 use Rattle.frames.proofs.parse.refusal_of.Goals as goal
 
 pub returns-then-frame-eq0 : goal.returns-then-frame-eq0

@@ -1,9 +1,9 @@
 use native.Mathlib.Omega.{arith}
+use lib.ListN.{get_or}
 use borrow.Author.Tests.{ne_eqb}
 use Rattle.frames.proofs.ReadLaws.{well_is, well_long}
-use Rattle.frames.specs.Table.{READ, WRITE, LOGIN, ASSIGN, LOCK, UNLOCK, LOGOUT, frame_table, length_in, frame_length}
+use Rattle.frames.specs.Table.{READ, WRITE, LOGIN, ASSIGN, LOCK, UNLOCK, CLEAR, LOGOUT, frame_table, length_in, frame_length}
 use Rattle.frames.specs.Reading.{request_in}
-use borrow.Author.Rules.{rules}
 use Rattle.frames.proofs.parse.request_of.Goals as goal
 
 pub bounds-frame-0 : goal.bounds-frame-0
@@ -79,6 +79,7 @@ returns-in-31 c = rw c.in-31.is c.plain-in-31.ensures.answer
 
 pub returns-in_default : goal.returns-in_default
 unfolding request_in
-returns-in_default c = let r = c.in_default.rest in
-    rw (ne_eqb _ _ r.0.0.0.0.0.0.0.1, ne_eqb _ _ r.0.0.0.0.0.0.1, ne_eqb _ _ r.0.0.0.0.0.1, ne_eqb _ _ r.0.0.0.0.1, ne_eqb _ _ r.0.0.0.1, ne_eqb _ _ r.0.0.1, ne_eqb _ _ r.0.1, ne_eqb _ _ r.1)
+returns-in_default c =
+    let n = get_or c.args.frame.now 0 0 in
+    rw (ne_eqb n READ (omega arith), ne_eqb n WRITE (omega arith), ne_eqb n LOGIN (omega arith), ne_eqb n ASSIGN (omega arith), ne_eqb n LOCK (omega arith), ne_eqb n UNLOCK (omega arith), ne_eqb n CLEAR (omega arith), ne_eqb n LOGOUT (omega arith))
     c.plain-in_default.ensures.answer

@@ -1,7 +1,6 @@
 use Rattle.frames.specs.Requests.{plain}
 use Rattle.frames.specs.Reading.{string_request}
 use Rattle.terms.specs.Strings.{string_at}
-use borrow.Author.Rules.{rules}
 use Rattle.frames.proofs.parse.with_string.Goals as goal
 
 pub returns : goal.returns

@@ -1,6 +1,5 @@
 use Rattle.rows.specs.Rows.{set_row}
 use mathlib.Core.Path.{ap, ◌∙◌}
-use borrow.Author.Rules.{rules}
 use Rattle.locks.proofs.row.fill.Goals as goal
 
 pub returns : goal.returns

@@ -3,11 +3,10 @@ use Rattle.terms.specs.Tables.{row_holds}
 use Rattle.rows.specs.Words.{first}
 use lib.Dec.{lit≤}
 use mathlib.Core.Path.{ap, ◌∙◌}
-use borrow.Author.Rules.{rules}
 use Rattle.locks.proofs.row.find_string.Goals as goal
 
 pub find-requires : goal.find-requires
-find-requires c = rw c.shape.ensures (c.requires, lit≤ tt)
+find-requires c = rw c.shape.ensures (record { n_in_bounds = c.requires; string_bound = lit≤ tt })
 
 pub returns : goal.returns
 returns c =

@@ -4,7 +4,6 @@ use Rattle.terms.specs.Tables.{is_free, row_in, row_free}
 use lib.Dec.{eqb}
 use Prim.Native.Nat.{ℕ}
 use mathlib.Core.Path.{ap}
-use borrow.Author.Rules.{rules}
 use Rattle.locks.proofs.row.is_free.Goals as goal
 
 pub returns : goal.returns

@@ -4,7 +4,6 @@ use Rattle.rows.proofs.RowLaws.{head_part}
 use lib.Dec.{lit<}
 use mathlib.Core.Path.{sym}
 use Prim.Native.Nat.{◌*◌}
-use borrow.Author.Rules.{rules}
 use Rattle.locks.proofs.row.owner_of.Goals as goal
 
 pub returns : goal.returns

@@ -5,10 +5,9 @@ use Rattle.terms.specs.Tables.{is_free, string_in}
 use Rattle.rows.specs.Numbers.{bit_at}
 use Rattle.rows.specs.Rows.{part}
 use Rattle.rows.specs.Words.{zeros}
-use borrow.Author.Tests.{eq-eqb, ne_eqb, le-leb, lt-leb, not-true, not-false}
+use borrow.Author.Tests.{eq-eqb, ne_eqb, le-leb, lt-leb}
 use mathlib.Core.Path.{sym, ap, ◌∙◌}
 use Prim.Native.Nat.{ℕ, ◌+◌, ◌-◌}
-use borrow.Author.Rules.{rules}
 use Rattle.locks.proofs.rules.row_good.Goals as goal
 
 pub returns-then-r : goal.returns-then-r

@@ -1,12 +1,7 @@
-use Rattle.locks.specs.Good.{sound_row, sound_at}
-use Rattle.rows.proofs.IndexLaws.{Passing, pass_starts, pass_on, pass_breaks, pass_ends}
-use Rattle.rows.proofs.RowLaws.{length_part}
+use Rattle.locks.specs.Good.{sound_at}
+use Rattle.rows.proofs.IndexLaws.{Passing}
 use Rattle.rows.specs.Numbers.{bit_at}
-use borrow.Author.Tests.{not-true, not-false}
-use lib.ListN.{length}
-use mathlib.Core.Path.{sym, ap, ◌∙◌}
-use native.Mathlib.Omega.{arith}
-use Prim.Native.Nat.{◌-◌, ◌*◌}
+use Prim.Native.Nat.{◌-◌}
 use Rattle.locks.proofs.rules.rows_good.Given as goal
 
 abbrev pub invariant-loop-i : goal.invariant-loop-i
