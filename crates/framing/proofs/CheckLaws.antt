@@ -9,7 +9,7 @@ use lib.Pow.{split}
 use lib.ListN.{length, drop, get_or}
 use lib.Seq.{drop-cons}
 use Rattle.rows.proofs.BuildLaws.{get_D_build}
-use Rattle.framing.specs.Check.{step, steps, check_table, check_byte, check_from}
+use Rattle.framing.specs.Check.{steps, check_table, check_byte, check_from}
 use Rattle.framing.proofs.XorLaws.{splits}
 
 -- the step by the table is the one bit by bit: the register's high byte, and eight steps of the low one

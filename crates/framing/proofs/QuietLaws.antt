@@ -8,7 +8,7 @@ use lib.ListN.{length, get_or}
 use lib.Seq.{slice, slice_empty}
 use Rattle.framing.specs.Bits.{bits_of, to_bits}
 use Rattle.framing.specs.Reading.{scan}
-use Rattle.framing.specs.Inner.{TakenOut, Passes, sixths}
+use Rattle.framing.specs.Inner.{TakenOut, Passes}
 use Rattle.framing.specs.declared.zeros.Taken.{Taken}
 use Rattle.framing.specs.declared.receive.Passed.{Passed}
 use Rattle.framing.proofs.BitLaws.{length_to_bits}

@@ -1,10 +1,8 @@
 use native.Mathlib.Omega.{arith}
 use mathlib.Core.Path.{sym, ◌∙◌}
-use borrow.Author.Tests.{not-true, not-false}
 use Rattle.framing.specs.Inner.{scan_of, Within}
 use Rattle.framing.proofs.ScanLaws.{opens_within}
 use Rattle.framing.proofs.MeasureLaws.{measured_closed, measured_ended, measured_seven, measured_raw}
-use borrow.Author.Rules.{rules}
 use Rattle.framing.proofs.measure.Goals as goal
 
 pub returns-then-not-opens : goal.returns-then-not-opens

@@ -1,22 +1,19 @@
 use native.Mathlib.Omega.{arith}
 use Rattle.framing.specs.Inner.{Measures}
 use Rattle.framing.proofs.ReadLaws.{start_refused, read_start}
-use borrow.Author.Rules.{rules}
 use Rattle.framing.proofs.read_start.Goals as goal
 
 pub deliver-user-requires : goal.deliver-user-requires
 unfolding Measures
 deliver-user-requires c =
-    let found = c.from-1.given in
-    let holds = rw found.1 at c.measure.ensures in
+    let holds = rw c.in-Between.is at c.measure.ensures in
     let least = c.lesser-held.ensures in
     (holds.order, holds.inside, omega (arith, holds.long, least), omega (arith, least))
 
 pub overflow_cast-result : goal.overflow_cast-result
 unfolding Measures
 overflow_cast-result c =
-    let found = c.from-1.given in
-    let holds = rw found.1 at c.measure.ensures in
+    let holds = rw c.in-Between.is at c.measure.ensures in
     omega (arith, holds.most)
 
 pub returns-in-Refused : goal.returns-in-Refused
@@ -27,6 +24,5 @@ pub returns-in-Between : goal.returns-in-Between
 unfolding Measures
 returns-in-Between c =
     let got = c.deliver-user.ensures in
-    let found = c.from-1.given in
-    let holds = rw found.1 at c.measure.ensures in
+    let holds = rw c.in-Between.is at c.measure.ensures in
     read_start _ _ _ _ _ holds _ _ _ _ c.lesser-held.ensures got.0 got.1

@@ -1,5 +1,4 @@
 use Rattle.framing.proofs.MeasureLaws.{measured_20, measured_21, measured_17, measured_22, measured_content}
-use borrow.Author.Rules.{rules}
 use Rattle.framing.proofs.weigh.Goals as goal
 
 pub returns-then-sum-ne0 : goal.returns-then-sum-ne0

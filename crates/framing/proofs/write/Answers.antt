@@ -2,7 +2,6 @@ use native.Mathlib.Omega.{arith}
 use mathlib.Core.Path.{sym, ap, ◌∙◌}
 use lib.ListN.{length}
 use Rattle.framing.proofs.WriteLaws.{with_check, written_17, written_13, written_bits}
-use borrow.Author.Rules.{rules}
 use Rattle.framing.proofs.write.Goals as goal
 
 pub returns-then-data-lt1 : goal.returns-then-data-lt1

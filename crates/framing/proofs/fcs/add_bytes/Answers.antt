@@ -1,7 +1,7 @@
-use Prim.Native.Nat.{◌+◌, ◌-◌, ◌≤◌}
+use Prim.Native.Nat.{◌+◌}
 use native.Mathlib.Omega.{arith}
-use mathlib.Core.Path.{◌≡◌, refl, sym, ap, ◌∙◌}
-use lib.ListN.{length, drop, drop_of_length-le}
+use mathlib.Core.Path.{refl, sym, ap, ◌∙◌}
+use lib.ListN.{drop, drop_of_length-le}
 use Rattle.framing.specs.Check.{check_from}
 use Rattle.framing.proofs.CheckLaws.{check_more}
 use Rattle.framing.proofs.fcs.add_bytes.Goals as goal

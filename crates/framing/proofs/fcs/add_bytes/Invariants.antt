@@ -1,9 +1,7 @@
-use Prim.Native.Nat.{◌+◌, ◌-◌, ◌≤◌}
-use native.Mathlib.Omega.{arith}
-use mathlib.Core.Path.{◌≡◌, refl, sym, ap, ◌∙◌}
-use lib.ListN.{length, drop, drop_of_length-le}
+use Prim.Native.Nat.{◌-◌, ◌≤◌}
+use mathlib.Core.Path.{◌≡◌}
+use lib.ListN.{length, drop}
 use Rattle.framing.specs.Check.{check_from}
-use Rattle.framing.proofs.CheckLaws.{check_more}
 use Rattle.framing.proofs.fcs.add_bytes.Given as goal
 
 abbrev pub invariant-loop-i : goal.invariant-loop-i

@@ -1,5 +1,4 @@
 use Rattle.framing.specs.Check.{check_from, «check»}
-use borrow.Author.Rules.{rules}
 use Rattle.framing.proofs.fcs.of_frame.Goals as goal
 
 pub returns : goal.returns

@@ -1,5 +1,4 @@
 use Rattle.framing.proofs.ScanLaws.{opens_past, opens_short, opens_by}
-use borrow.Author.Rules.{rules}
 use Rattle.framing.proofs.receive.opens.Goals as goal
 
 pub returns-then-s-n : goal.returns-then-s-n
@@ -9,4 +8,4 @@ pub returns-then-n-lt8 : goal.returns-then-n-lt8
 returns-then-n-lt8 c = opens_short _ _ c.if-n-lt8.true
 
 pub returns : goal.returns
-returns c = opens_by _ _ c.if-s-n.false c.if-n-lt8.false (c.shared_slice_known-1.given 0).fits
+returns c = opens_by _ _ c.if-s-n.false c.if-n-lt8.false (c.type_inv.s 0).fits

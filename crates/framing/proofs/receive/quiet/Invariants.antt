@@ -1,9 +1,6 @@
 use Prim.Native.Nat.{◌-◌}
-use native.Mathlib.Omega.{arith}
-use mathlib.Core.Path.{sym, ◌∙◌}
 use Rattle.framing.specs.Bits.{to_bits}
-use Rattle.framing.proofs.TakeLaws.{whole_place}
-use Rattle.framing.proofs.QuietLaws.{Quiet, quiet_starts, quiet_more}
+use Rattle.framing.proofs.QuietLaws.{Quiet}
 use Rattle.framing.proofs.receive.quiet.Given as goal
 
 abbrev pub invariant-loop-taken : goal.invariant-loop-taken

@@ -8,7 +8,6 @@ use Rattle.framing.specs.Zeros.{with_zeros}
 use Rattle.framing.proofs.BitLaws.{content_bits, two_bytes, length_bits_of, length_to_bits}
 use Rattle.framing.proofs.ZeroLaws.{ones_lt, with_long}
 use Rattle.framing.proofs.PenLaws.{counts_both, framed_long}
-use borrow.Author.Rules.{rules}
 use Rattle.framing.proofs.send.count.Goals as goal
 
 pub count_bytes-last-requires : goal.count_bytes-last-requires

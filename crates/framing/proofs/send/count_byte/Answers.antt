@@ -4,7 +4,6 @@ use Rattle.framing.specs.Bits.{bits_of}
 use Rattle.framing.proofs.BitLaws.{bits_halves}
 use Rattle.framing.proofs.ZeroLaws.{ones_lt}
 use Rattle.framing.proofs.PenLaws.{counts_both, counted}
-use borrow.Author.Rules.{rules}
 use Rattle.framing.proofs.send.count_byte.Goals as goal
 
 pub put_in-high-requires : goal.put_in-high-requires

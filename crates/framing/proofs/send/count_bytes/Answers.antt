@@ -1,10 +1,8 @@
-use Prim.Native.Nat.{◌+◌, ◌-◌, ◌*◌, ◌<◌, ◌≤◌}
 use native.Mathlib.Omega.{arith}
 use mathlib.Core.Path.{sym}
-use lib.ListN.{length, take, get_or}
+use lib.ListN.{take, get_or}
 use lib.Seq.{take_all}
 use Rattle.framing.specs.Bits.{bits_of, to_bits}
-use Rattle.framing.specs.Inner.{Counts}
 use Rattle.framing.proofs.BitLaws.{bits_more, length_bits_of}
 use Rattle.framing.proofs.ZeroLaws.{ones_lt, with_long}
 use Rattle.framing.proofs.PenLaws.{counts_both, counts_none}

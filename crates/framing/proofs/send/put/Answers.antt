@@ -5,7 +5,6 @@ use lib.Pow.{pow_mono}
 use Rattle.framing.specs.Inner.{place}
 use Rattle.framing.proofs.TakeLaws.{above_lt}
 use Rattle.framing.proofs.PenLaws.{lays_short, lays_full}
-use borrow.Author.Rules.{rules}
 use Rattle.framing.proofs.send.put.Goals as goal
 
 pub raised-requires : goal.raised-requires

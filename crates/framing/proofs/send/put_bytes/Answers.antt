@@ -1,11 +1,10 @@
-use Prim.Native.Nat.{◌+◌, ◌-◌, ◌<◌, ◌≤◌}
+use Prim.Native.Nat.{◌+◌}
 use native.Mathlib.Omega.{arith}
-use mathlib.Core.Path.{◌≡◌, refl, sym, ◌∙◌}
+use mathlib.Core.Path.{refl, sym, ◌∙◌}
 use mathlib.Core.List.{◌++◌}
-use lib.ListN.{length, take, drop, get_or}
+use lib.ListN.{take, drop, get_or}
 use lib.Seq.{take_all}
 use Rattle.framing.specs.Bits.{bits_of, to_bits}
-use Rattle.framing.specs.Inner.{Sends}
 use Rattle.framing.proofs.BitLaws.{bits_more, bits_rest}
 use Rattle.framing.proofs.ZeroLaws.{ones_lt}
 use Rattle.framing.proofs.PenLaws.{sends_none, sends_both, room_first, room_after}
@@ -38,7 +37,7 @@ loop-i-preserved c =
     let byte = bits_of 8 (get_or s at.i 0) in (
       omega arith,
       rw more.ensures.ones (ones_lt byte at.p.ones at.invariant.1),
-      more.auto.1.0 ∙ at.invariant.2,
+      more.auto.out ∙ at.invariant.2,
       rw (bits_more s at.i c.loop-i-test.true) (sends_both (to_bits (take at.i s)) byte at.invariant.2 at.invariant.3 more.ensures),
     )
 

@@ -1,14 +1,8 @@
-use Prim.Native.Nat.{◌+◌, ◌-◌, ◌<◌, ◌≤◌}
-use native.Mathlib.Omega.{arith}
-use mathlib.Core.Path.{◌≡◌, refl, sym, ◌∙◌}
-use mathlib.Core.List.{◌++◌}
-use lib.ListN.{length, take, drop, get_or}
-use lib.Seq.{take_all}
-use Rattle.framing.specs.Bits.{bits_of, to_bits}
+use Prim.Native.Nat.{◌-◌, ◌<◌, ◌≤◌}
+use mathlib.Core.Path.{◌≡◌}
+use lib.ListN.{length, take}
+use Rattle.framing.specs.Bits.{to_bits}
 use Rattle.framing.specs.Inner.{Sends}
-use Rattle.framing.proofs.BitLaws.{bits_more, bits_rest}
-use Rattle.framing.proofs.ZeroLaws.{ones_lt}
-use Rattle.framing.proofs.PenLaws.{sends_none, sends_both, room_first, room_after}
 use Rattle.framing.proofs.send.put_bytes.Given as goal
 
 abbrev pub invariant-loop-i : goal.invariant-loop-i

@@ -4,7 +4,6 @@ use Rattle.framing.specs.Bits.{bits_of}
 use Rattle.framing.proofs.BitLaws.{two_bytes}
 use Rattle.framing.proofs.ZeroLaws.{ones_lt}
 use Rattle.framing.proofs.PenLaws.{sends_both, room_first, room_after}
-use borrow.Author.Rules.{rules}
 use Rattle.framing.proofs.send.put_check.Goals as goal
 
 pub put_byte-low-requires : goal.put_byte-low-requires
@@ -19,9 +18,9 @@ put_byte-requires c =
     let a = c.args in
     let pre = c.requires in (
       pre.0,
-      rw low.auto.1.0 low.ensures.lays.sound,
+      rw low.auto.out low.ensures.lays.sound,
       rw low.ensures.ones (ones_lt (bits_of 8 (a.sum % 256)) a.pen.ones pre.2),
-      room_after (bits_of 8 (a.sum % 256)) (bits_of 8 (a.sum / 256)) _ _ a.pen low.result _ low.ensures pre.1.inside low.auto.1.0 (rw (two_bytes (a.sum % 256) (a.sum / 256), sym low.auto.1.0) at pre.3),
+      room_after (bits_of 8 (a.sum % 256)) (bits_of 8 (a.sum / 256)) _ _ a.pen low.result _ low.ensures pre.1.inside low.auto.out (rw (two_bytes (a.sum % 256) (a.sum / 256), sym low.auto.out) at pre.3),
     )
 
 pub returns : goal.returns
@@ -29,4 +28,4 @@ returns c =
     let high = c.put_byte in
     let low = c.put_byte-low in
     let a = c.args in
-    rw (two_bytes (a.sum % 256) (a.sum / 256)) (sends_both (bits_of 8 (a.sum % 256)) (bits_of 8 (a.sum / 256)) low.auto.1.0 low.ensures high.ensures)
+    rw (two_bytes (a.sum % 256) (a.sum / 256)) (sends_both (bits_of 8 (a.sum % 256)) (bits_of 8 (a.sum / 256)) low.auto.out low.ensures high.ensures)

@@ -5,7 +5,6 @@ use Rattle.framing.specs.Bits.{bits_of, to_bits}
 use Rattle.framing.proofs.BitLaws.{content_bits}
 use Rattle.framing.proofs.ZeroLaws.{ones_lt}
 use Rattle.framing.proofs.PenLaws.{sends_both, room_first, room_after}
-use borrow.Author.Rules.{rules}
 use Rattle.framing.proofs.send.put_content.Goals as goal
 
 pub put_byte-first-requires : goal.put_byte-first-requires
@@ -22,11 +21,11 @@ put_bytes-last-requires c =
     let pre = c.requires in
     let check = to_bits (a.sum % 256 ∷ a.sum / 256 ∷ []) in (
       c.put_table-table.ensures,
-      rw first.auto.1.0 first.ensures.lays.sound,
+      rw first.auto.out first.ensures.lays.sound,
       rw first.ensures.ones (ones_lt (bits_of 8 a.user) a.pen.ones pre.1),
       room_first (to_bits a.«data».now) check first.result _
-          (room_after (bits_of 8 a.user) (to_bits a.«data».now ++ check) _ _ a.pen first.result _ first.ensures pre.0.inside first.auto.1.0
-          (rw (content_bits a.user (a.sum % 256) (a.sum / 256) a.«data».now, sym first.auto.1.0) at pre.2)),
+          (room_after (bits_of 8 a.user) (to_bits a.«data».now ++ check) _ _ a.pen first.result _ first.ensures pre.0.inside first.auto.out
+          (rw (content_bits a.user (a.sum % 256) (a.sum / 256) a.«data».now, sym first.auto.out) at pre.2)),
     )
 
 pub put_check-requires : goal.put_check-requires
@@ -36,14 +35,14 @@ put_check-requires c =
     let a = c.args in
     let pre = c.requires in
     let check = to_bits (a.sum % 256 ∷ a.sum / 256 ∷ []) in
-    let room = room_after (bits_of 8 a.user) (to_bits a.«data».now ++ check) _ _ a.pen first.result _ first.ensures pre.0.inside first.auto.1.0
-    (rw (content_bits a.user (a.sum % 256) (a.sum / 256) a.«data».now, sym first.auto.1.0) at pre.2) in
+    let room = room_after (bits_of 8 a.user) (to_bits a.«data».now ++ check) _ _ a.pen first.result _ first.ensures pre.0.inside first.auto.out
+    (rw (content_bits a.user (a.sum % 256) (a.sum / 256) a.«data».now, sym first.auto.out) at pre.2) in
     let run : first.result.ones < 5 = rw first.ensures.ones (ones_lt (bits_of 8 a.user) a.pen.ones pre.1) in (
       c.put_table-table.ensures,
-      rw last.auto.1.0 last.ensures.lays.sound,
+      rw last.auto.out last.ensures.lays.sound,
       rw last.ensures.ones (ones_lt (to_bits a.«data».now) first.result.ones run),
-      room_after (to_bits a.«data».now) check _ _ first.result last.result _ last.ensures (rw (sym first.auto.1.0) at first.ensures.lays.sound.inside) last.auto.1.0
-          (rw (sym last.auto.1.0) at room),
+      room_after (to_bits a.«data».now) check _ _ first.result last.result _ last.ensures (rw (sym first.auto.out) at first.ensures.lays.sound.inside) last.auto.out
+          (rw (sym last.auto.out) at room),
     )
 
 pub returns : goal.returns
@@ -54,5 +53,5 @@ returns c =
     let a = c.args in
     let check = to_bits (a.sum % 256 ∷ a.sum / 256 ∷ []) in
     rw (content_bits a.user (a.sum % 256) (a.sum / 256) a.«data».now)
-    (sends_both (bits_of 8 a.user) (to_bits a.«data».now ++ check) first.auto.1.0 first.ensures
-    (sends_both (to_bits a.«data».now) check last.auto.1.0 last.ensures end.ensures))
+    (sends_both (bits_of 8 a.user) (to_bits a.«data».now ++ check) first.auto.out first.ensures
+    (sends_both (to_bits a.«data».now) check last.auto.out last.ensures end.ensures))

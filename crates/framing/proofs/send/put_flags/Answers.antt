@@ -3,18 +3,17 @@ use Rattle.framing.specs.Bits.{odd, bits_of}
 use Rattle.framing.specs.Frame.{flag}
 use Rattle.framing.proofs.BitLaws.{length_bits_of}
 use Rattle.framing.proofs.PenLaws.{lays_both, place_after}
-use borrow.Author.Rules.{rules}
 use Rattle.framing.proofs.send.put_flags.Goals as goal
 
 pub put-requires : goal.put-requires
 put-requires c =
     let one = c.put-one in
     let pre = c.requires in
-    (rw one.auto.0 one.ensures.0.sound, omega arith, omega arith, omega (arith, place_after _ _ _ one.result (bits_of 8 126) one.ensures.0 pre.0.inside one.auto.0, length_bits_of 8 126, one.auto.0, pre.1))
+    (rw one.auto.out one.ensures.0.sound, omega arith, omega arith, omega (arith, place_after _ _ _ one.result (bits_of 8 126) one.ensures.0 pre.0.inside one.auto.out, length_bits_of 8 126, one.auto.out, pre.1))
 
 pub returns : goal.returns
 unfolding flag bits_of odd
 returns c =
     let two = c.put in
     let one = c.put-one in
-    (lays_both flag flag one.auto.0 one.ensures.0 two.ensures.0, two.ensures.1)
+    (lays_both flag flag one.auto.out one.ensures.0 two.ensures.0, two.ensures.1)

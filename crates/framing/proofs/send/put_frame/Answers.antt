@@ -23,9 +23,9 @@ put_content-sent-requires c =
     let a = c.args in
     let pre = c.requires in
     let content = (a.user ∷ a.«data».now) ++ (a.sum % 256 ∷ a.sum / 256 ∷ []) in (
-      rw opened.auto.0 opened.ensures.0.sound,
+      rw opened.auto.out opened.ensures.0.sound,
       omega (arith, opened.ensures.1),
-      rw opened.ensures.1 (omega (arith, place_after _ _ _ opened.result (flag ++ flag) opened.ensures.0 (omega arith) opened.auto.0, framed_long content, pre, opened.auto.0)),
+      rw opened.ensures.1 (omega (arith, place_after _ _ _ opened.result (flag ++ flag) opened.ensures.0 (omega arith) opened.auto.out, framed_long content, pre, opened.auto.out)),
     )
 
 pub put_flags-closed-requires : goal.put_flags-closed-requires
@@ -36,9 +36,9 @@ put_flags-closed-requires c =
     let a = c.args in
     let pre = c.requires in
     let content = (a.user ∷ a.«data».now) ++ (a.sum % 256 ∷ a.sum / 256 ∷ []) in
-    let first = place_after _ _ _ opened.result (flag ++ flag) opened.ensures.0 (omega arith) opened.auto.0 in
-    let second = place_after _ _ opened.result sent.result (with_zeros opened.result.ones (to_bits content)) sent.ensures.lays (rw (sym opened.auto.0) at opened.ensures.0.sound.inside) sent.auto.0 in
-    (rw sent.auto.0 sent.ensures.lays.sound, omega (arith, first, rw opened.ensures.1 at second, framed_long content, pre, opened.auto.0, sent.auto.0))
+    let first = place_after _ _ _ opened.result (flag ++ flag) opened.ensures.0 (omega arith) opened.auto.out in
+    let second = place_after _ _ opened.result sent.result (with_zeros opened.result.ones (to_bits content)) sent.ensures.lays (rw (sym opened.auto.out) at opened.ensures.0.sound.inside) sent.auto.out in
+    (rw sent.auto.out sent.ensures.lays.sound, omega (arith, first, rw opened.ensures.1 at second, framed_long content, pre, opened.auto.out, sent.auto.out))
 
 pub put_rest-requires : goal.put_rest-requires
 unfolding place flag
@@ -49,10 +49,10 @@ put_rest-requires c =
     let a = c.args in
     let pre = c.requires in
     let content = (a.user ∷ a.«data».now) ++ (a.sum % 256 ∷ a.sum / 256 ∷ []) in
-    let all = frame_lays content opened.auto.0 sent.auto.0 opened.ensures.1 opened.ensures.0 sent.ensures closed.ensures.0 in (
-      λ i. (c.slice_known-4-1.given i).fits,
-      rw closed.auto.0 closed.ensures.0.sound,
-      omega (arith, place_after _ _ _ closed.result (framed content) all (omega arith) (closed.auto.0 ∙ sent.auto.0 ∙ opened.auto.0), pre, opened.auto.0, sent.auto.0, closed.auto.0),
+    let all = frame_lays content opened.auto.out sent.auto.out opened.ensures.1 opened.ensures.0 sent.ensures closed.ensures.0 in (
+      search rules,
+      rw closed.auto.out closed.ensures.0.sound,
+      omega (arith, place_after _ _ _ closed.result (framed content) all (omega arith) (closed.auto.out ∙ sent.auto.out ∙ opened.auto.out), pre, opened.auto.out, sent.auto.out, closed.auto.out),
     )
 
 pub returns : goal.returns
@@ -63,5 +63,5 @@ returns c =
     let opened = c.put_flags-opened in
     let a = c.args in
     let content = (a.user ∷ a.«data».now) ++ (a.sum % 256 ∷ a.sum / 256 ∷ []) in
-    let all = frame_lays content opened.auto.0 sent.auto.0 opened.ensures.1 opened.ensures.0 sent.ensures closed.ensures.0 in
-    rest.ensures ∙ frame_done (framed content) _ _ closed.result (closed.auto.0 ∙ sent.auto.0 ∙ opened.auto.0) all
+    let all = frame_lays content opened.auto.out sent.auto.out opened.ensures.1 opened.ensures.0 sent.ensures closed.ensures.0 in
+    rest.ensures ∙ frame_done (framed content) _ _ closed.result (closed.auto.out ∙ sent.auto.out ∙ opened.auto.out) all

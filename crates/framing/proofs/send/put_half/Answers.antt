@@ -2,7 +2,6 @@ use native.Mathlib.Omega.{arith}
 use mathlib.Core.Path.{sym, ap, ◌∙◌}
 use lib.ListN.{length}
 use Rattle.framing.proofs.BitLaws.{length_bits_of}
-use borrow.Author.Rules.{rules}
 use Rattle.framing.proofs.send.put_half.Goals as goal
 
 pub put-requires : goal.put-requires

@@ -2,7 +2,6 @@ use native.Mathlib.Omega.{arith}
 use lib.Pow.{pow_mono}
 use Rattle.framing.specs.Inner.{place}
 use Rattle.framing.proofs.PenLaws.{rest_none, rest_byte}
-use borrow.Author.Rules.{rules}
 use Rattle.framing.proofs.send.put_rest.Goals as goal
 
 pub overflow_cast-out : goal.overflow_cast-out

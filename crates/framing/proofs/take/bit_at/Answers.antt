@@ -1,7 +1,6 @@
 use mathlib.Core.Path.{sym}
 use Rattle.framing.specs.Bits.{odd}
 use Rattle.framing.proofs.BitLaws.{bit_is}
-use borrow.Author.Rules.{rules}
 use Rattle.framing.proofs.take.bit_at.Goals as goal
 
 pub returns : goal.returns

@@ -1,10 +1,9 @@
-use Prim.Native.Nat.{◌-◌, ◌*◌, ◌≤◌}
+use Prim.Native.Nat.{◌*◌}
 use native.Mathlib.Omega.{arith}
 use mathlib.Core.Path.{◌≡◌, refl, sym, ap, ◌∙◌}
-use mathlib.Core.List.{◌++◌}
 use lib.ListN.{take, drop, length-drop}
 use Rattle.framing.specs.Bits.{to_bits, value, packed}
-use Rattle.framing.specs.Inner.{coming, Ready}
+use Rattle.framing.specs.Inner.{coming}
 use Rattle.framing.proofs.TakeLaws.{byte_taken, rest_taken, rest_ready, drop_more, copy_more, length_copied}
 use Rattle.framing.proofs.take.copy.Goals as goal
 

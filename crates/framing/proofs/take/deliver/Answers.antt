@@ -7,7 +7,6 @@ use Rattle.framing.specs.Bits.{to_bits, value, packed}
 use Rattle.framing.specs.Zeros.{without_zeros}
 use Rattle.framing.specs.Inner.{coming}
 use Rattle.framing.proofs.TakeLaws.{fresh_coming, fresh_ready, byte_taken, rest_taken, rest_ready}
-use borrow.Author.Rules.{rules}
 use Rattle.framing.proofs.take.deliver.Goals as goal
 
 pub pull-first-requires : goal.pull-first-requires

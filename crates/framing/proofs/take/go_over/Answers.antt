@@ -2,7 +2,6 @@ use native.Mathlib.Omega.{arith}
 use lib.Pow.{pow_mono}
 use Rattle.framing.proofs.TakeLaws.{above_lt}
 use Prim.Native.Nat.{◌+◌}
-use borrow.Author.Rules.{rules}
 use Rattle.framing.proofs.take.go_over.Goals as goal
 
 pub raised-requires : goal.raised-requires

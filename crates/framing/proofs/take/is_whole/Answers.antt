@@ -2,7 +2,6 @@ use Prim.Native.Nat.{◌%◌}
 use mathlib.Core.Path.{sym}
 use borrow.Author.Tests.{eq-eqb, ne_eqb}
 use Rattle.framing.specs.Inner.{whole_byte}
-use borrow.Author.Rules.{rules}
 use Rattle.framing.proofs.take.is_whole.Goals as goal
 
 pub returns-then-at-ne0 : goal.returns-then-at-ne0

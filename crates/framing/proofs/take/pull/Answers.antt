@@ -1,8 +1,5 @@
-use Prim.Native.Nat.{◌-◌, ◌≤◌}
 use native.Mathlib.Omega.{arith}
-use lib.ListN.{length}
 use Rattle.framing.specs.Bits.{to_bits}
-use Rattle.framing.specs.Inner.{coming, Goes}
 use Rattle.framing.proofs.TakeLaws.{goes_none, goes_both, coming_more}
 use Rattle.framing.proofs.take.pull.Goals as goal
 

@@ -7,7 +7,6 @@ use lib.Seq.{slice}
 use Rattle.framing.specs.Bits.{bits_of, to_bits}
 use Rattle.framing.proofs.BitLaws.{length_to_bits}
 use Rattle.framing.proofs.TakeLaws.{goes_over, whole_place, byte_first, bit_slice}
-use borrow.Author.Rules.{rules}
 use Rattle.framing.proofs.take.step.Goals as goal
 
 pub go_over-requires : goal.go_over-requires

@@ -1,7 +1,6 @@
 use Prim.Native.Nat.{◌-◌, ◌<◌}
-use native.Mathlib.Omega.{arith}
 use Rattle.framing.specs.Bits.{to_bits}
-use Rattle.framing.proofs.SumLaws.{Summing, sum_starts, sum_step, sum_byte, sum_fits, sum_ends}
+use Rattle.framing.proofs.SumLaws.{Summing}
 use Rattle.framing.proofs.take.sum.Given as goal
 
 abbrev pub invariant-loop-t : goal.invariant-loop-t

@@ -1,7 +1,6 @@
 use mathlib.Core.Path.{sym}
 use native.Mathlib.Omega.{arith}
 use Rattle.framing.proofs.TakeLaws.{byte_bit, dropped_bit, kept_bit}
-use borrow.Author.Rules.{rules}
 use Rattle.framing.proofs.zeros.bit_taken.Goals as goal
 
 pub returns-then-ones-eq5 : goal.returns-then-ones-eq5

@@ -4,7 +4,6 @@ use lib.Pow.{pow_mono}
 use Rattle.framing.specs.Bits.{bits_of}
 use Rattle.framing.proofs.BitLaws.{bits_halves}
 use Rattle.framing.proofs.TakeLaws.{taken_both, above_lt}
-use borrow.Author.Rules.{rules}
 use Rattle.framing.proofs.zeros.byte_taken.Goals as goal
 
 pub raised-requires : goal.raised-requires

@@ -2,7 +2,6 @@ use native.Mathlib.Omega.{arith}
 use Rattle.framing.specs.Bits.{bits_of}
 use Rattle.framing.proofs.ZeroLaws.{run_le}
 use Rattle.framing.proofs.TableLaws.{taken_read, entry_bits, entry_small}
-use borrow.Author.Rules.{rules}
 use Rattle.framing.proofs.zeros.half_taken.Goals as goal
 
 pub overflow_cast-entry-2 : goal.overflow_cast-entry-2

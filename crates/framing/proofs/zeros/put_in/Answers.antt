@@ -1,6 +1,5 @@
 use native.Mathlib.Omega.{arith}
 use Rattle.framing.proofs.TableLaws.{put_read, entry_bits, entry_small}
-use borrow.Author.Rules.{rules}
 use Rattle.framing.proofs.zeros.put_in.Goals as goal
 
 pub overflow_cast-entry-2 : goal.overflow_cast-entry-2

@@ -1,6 +1,5 @@
 use native.Mathlib.Omega.{arith}
 use lib.Pow.{shl_exact}
-use borrow.Author.Rules.{rules}
 use Rattle.framing.proofs.zeros.raised.Goals as goal
 
 pub returns : goal.returns
