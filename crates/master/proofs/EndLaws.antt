@@ -1,7 +1,7 @@
 -- The laws of what ends a station: who goes on is in and was given to nobody, and only a login gives a number.
 use Prim.Native.Nat.{ℕ}
 use mathlib.Core.Path.{◌≡◌, refl, sym}
-use mathlib.Core.Bool.{Bool, true, false, not, ◌||◌, or_true}
+use mathlib.Core.Bool.{Bool, true, false, not, ◌||◌, or-true}
 use mathlib.Core.List.{List}
 use lib.Dec.{eqb}
 use borrow.Author.Tests.{eq-eqb, ne_eqb}
@@ -22,7 +22,7 @@ module _ (e : Effect (List ℕ)) (k : ℕ) where
 
   pub ends_given : gives e.tells k ≡ true → ends e k ≡ true
   unfolding ends
-  ends_given g = rw g (or_true (not (logged_in e.records k)))
+  ends_given g = rw g (or-true (not (logged_in e.records k)))
 
   pub ends_not : ends e k ≡ false → (logged_in e.records k ≡ true) × (gives e.tells k ≡ false)
   unfolding ends

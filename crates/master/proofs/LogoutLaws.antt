@@ -21,6 +21,7 @@ use Rattle.master.specs.Tables.{good_tables}
 use Rattle.master.specs.Answers.{answers, no_bytes}
 use Rattle.master.specs.Effects.{Effect, telling}
 use Rattle.master.specs.Frames.{logout_effect, logouts_below, excepted, starts_again, old_logouts, number_given}
+use Rattle.master.specs.Inner.{Left}
 use Rattle.master.proofs.TableLaws.{sized, below, logout_out, logout_tables}
 
 -- where nobody is named, nothing is done
@@ -190,3 +191,21 @@ module _ (serial t w : List ℕ) (good : good_tables t w ≡ true) where
     pub on_next : has_serial (up_to k).records serial k ≡ false → up_to (k + 1) ≡ up_to k
     unfolding logouts_below excepted starts_again
     on_next m = rw (add-one, some, sym (as_before k) ∙ m)
+
+-- the numbers below k have had their turn
+pub record Walked (t w serial t' w' : List ℕ) (k : ℕ) : Type 0 where
+  pub inside : k ≤ numbers
+  pub left : Left (logouts_below k (starts_again serial w) t w) t' w'
+
+module _ {t w serial t' w' : List ℕ} {k : ℕ} (good : good_tables t w ≡ true) (b : Walked t w serial t' w' k) where
+  pub walked_good : good_tables t' w' ≡ true
+  walked_good = rw (b.left.locks, b.left.records) (below_good serial t w good k)
+
+  module _ (some : zeros serial ≡ false) (l : k < numbers) where
+    pub walked_out : has_serial w' serial k ≡ true → {t'' w'' : List ℕ} → Left (logout_effect k t' w') t'' w'' → Walked t w serial t'' w'' (k + 1)
+    walked_out y a =
+        let next = out_next serial t w good some k (rw b.left.records at y) in
+        record { inside = omega arith; left = rw next (rw (← b.left.locks, ← b.left.records) a) }
+
+    pub walked_on : has_serial w' serial k ≡ false → Walked t w serial t' w' (k + 1)
+    walked_on m = record { inside = omega arith; left = rw (on_next serial t w good some k (rw b.left.records at m)) b.left }

@@ -58,11 +58,11 @@ perform-requires c = let a = c.args in
     let p = passed a.number a.frame.now a.records.now z in
     let well = p.reads in
     let long = sized a.locks.now a.records.now c.requires.records_value in
-    let read = request_of a.frame.now c.read-reading.result c.read-reading.ensures.answer well in (
-      (c.requires.records_value, c.requires.site_value),
-      λ h. logged_below a.records.now long a.number (seat_in a.number a.frame.now a.records.now long p
-          (sym (ap (λ (k : ℕ). eqb k LOGIN) (ap (λ (q : Request). code_of q.command) read ∙ code_kept a.frame.now well)) ∙ h)),
-    )
+    let read = request_of a.frame.now c.read-reading.result c.read-reading.ensures.answer well in record {
+      records_value = (c.requires.records_value, c.requires.site_value);
+      number_lt_numbers = λ h. logged_below a.records.now long a.number (seat_in a.number a.frame.now a.records.now long p
+          (sym (ap (λ (k : ℕ). eqb k LOGIN) (ap (λ (q : Request). code_of q.command) read ∙ code_kept a.frame.now well)) ∙ h));
+    }
 
 pub returns : goal.returns
 returns c = let a = c.args in
@@ -70,4 +70,4 @@ returns c = let a = c.args in
     let well = (passed a.number a.frame.now a.records.now z).reads in
     let read = request_of a.frame.now c.read-reading.result c.read-reading.ensures.answer well in
     serves_done a.number a.frame.now a.site.now a.locks.now a.records.now c.requires.records_value c.requires.site_value z _ _ _
-    (subst (λ (q : Request). Performs q a.number a.site.now a.locks.now a.records.now c.perform.result c.perform.new.1.1.1.0 c.perform.new.1.1.1.1.0) read c.perform.ensures)
+    (subst (λ (q : Request). Performs q a.number a.site.now a.locks.now a.records.now c.perform.result c.perform.new.locks c.perform.new.records) read c.perform.ensures)

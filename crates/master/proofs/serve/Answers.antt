@@ -21,7 +21,7 @@ returns-in-Faulty c =
 
 pub act-requires : goal.act-requires
 act-requires c =
-    (sym c.tables_good.ensures.answer ∙ c.if-not-tables_good.false, checked_good _ (sym c.check-checked.ensures.answer ∙ c.in_default.is))
+    record { records_value = sym c.tables_good.ensures.answer ∙ c.if-not-tables_good.false; site_value = checked_good _ (sym c.check-checked.ensures.answer ∙ c.in_default.is) }
 
 pub returns : goal.returns
 returns c = c.act.ensures

@@ -27,7 +27,7 @@ four_at-sent-requires c = let full : length c.args.q.serial ≡ 4 = search rules
 
 pub returns-then-number-ge-NUMBERS : goal.returns-then-number-ge-NUMBERS
 unfolding told login_effect number_given
-returns-then-number-ge-NUMBERS c = let a = c.args in
+returns-then-number-ge-NUMBERS c t = let a = c.args in
     let full : length a.q.serial ≡ 4 = search rules in
     let none : numbers ≤ lowest_number a.records.now = rw c.lowest_number-number.ensures.answer at c.if-number-ge-NUMBERS.true in
     let sent : c.four_at-sent.result ≡ low_first a.q.serial = c.four_at-sent.ensures ∙ ap low_first (whole a.q.serial full) in
@@ -38,11 +38,11 @@ put_station-requires c = omega (arith, (good_is c.args.records.now c.requires.0)
 
 pub returns : goal.returns
 unfolding told login_effect number_given name_found after_login logged_in_as
-returns c = let a = c.args in
+returns c t = let a = c.args in
     let full : length a.q.serial ≡ 4 = search rules in
-    let some : lowest_number (now a.records) < numbers = rw c.lowest_number-number.ensures.answer at c.if-number-ge-NUMBERS.false in
+    let some : lowest_number a.records.now < numbers = rw c.lowest_number-number.ensures.answer at c.if-number-ge-NUMBERS.false in
     let sent : c.four_at-sent.result ≡ low_first a.q.serial = c.four_at-sent.ensures ∙ ap low_first (whole a.q.serial full) in
-    let first : eqb (lowest_number (now a.records)) 0 ≡ false = ne_eqb _ _ (λ (z : lowest_number (now a.records) ≡ 0). omega (arith, (lowest_number_is (now a.records) (good_is (now a.records) c.requires.0).sized some).0)) in
+    let first : eqb (lowest_number a.records.now) 0 ≡ false = ne_eqb _ _ (λ (z : lowest_number a.records.now ≡ 0). omega (arith, (lowest_number_is a.records.now (good_is a.records.now c.requires.0).sized some).0)) in
     record {
       answer = rw (lt-ltb _ numbers some, first, sent, c.lowest_number-number.ensures.answer, c.has_user-found.ensures.answer);
       locks = rw (lt-ltb _ numbers some, first);

@@ -13,6 +13,7 @@ use mathlib.Core.Path.{◌≡◌, refl, sym, ◌∙◌}
 use native.Mathlib.Omega.{arith}
 use Prim.Native.Nat.{ℕ, ◌+◌, ◌-◌, ◌≤◌, ◌<◌}
 use borrow.Author.Rules.{rules}
+use Rattle.master.proofs.LogoutLaws.{Walked}
 use Rattle.master.proofs.commands.log_old_out.Given as goal
 
 abbrev pub invariant-loop-n : goal.invariant-loop-n

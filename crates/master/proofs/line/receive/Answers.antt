@@ -15,8 +15,6 @@ returns-in-Refused c =
 
 pub returns-in-Frame : goal.returns-in-Frame
 returns-in-Frame c =
-    let heard = c.hear in
-    let frame = c.user-1.given in
-    let read = rw frame.1 at c.read_start.ensures in
     let a = c.args in
-    line_heard a.number a.bits.now a.count a.site.now a.locks.now a.records.now (replicate 21 0) _ _ _ refl read heard.ensures
+    let read = rw c.in-Frame.is at c.read_start.ensures in
+    line_heard a.number a.bits.now a.count a.site.now a.locks.now a.records.now (replicate 21 0) _ _ _ refl read c.hear.ensures
