@@ -2,7 +2,7 @@
 use Prim.Native.Nat.{ℕ, ◌≤◌}
 use native.Mathlib.Omega.{arith}
 use mathlib.Core.Path.{◌≡◌, refl, sym, ◌∙◌}
-use mathlib.Core.Bool.{Bool, true, false, or_true}
+use mathlib.Core.Bool.{Bool, true, false, or-true}
 use mathlib.Core.Logic.{◌⊎◌, inl, inr}
 use mathlib.Core.List.{List}
 use lib.Dec.{leb}
@@ -84,7 +84,7 @@ since (logout_refused {h} f s e o d) = on h _ o (since d)
 spared_then : (k at : ℕ) (h : Run) (e : Event) → (size h ≤ at) ⊎ (ends_in h e k ≡ false) → lives_since k at h ≡ true → lives_since k at (h then e) ≡ true
 unfolding lives_since
 spared_then k at h e (inl l) r = rw (le-leb (size h) at l, r)
-spared_then k at h e (inr o) r = rw (o, or_true (leb (size h) at), r)
+spared_then k at h e (inr o) r = rw (o, or-true (leb (size h) at), r)
 
 since_lives : {k at : ℕ} {h : Run} → Since k at h → lives_since k at h ≡ true
 unfolding lives_since size
