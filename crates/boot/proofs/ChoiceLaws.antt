@@ -12,7 +12,7 @@ use Rattle.rows.proofs.SmallestLaws.{smallest_there, smallest_none, smallest_bel
 use Rattle.boot.specs.declared.systems.Pick.{Pick}
 use Rattle.boot.specs.Tables.{Tables, login_please, os_menu, wants_small, user_of, user_known, no_configuration, configuration}
 use Rattle.boot.specs.Systems.{system_rows, load_list, fits, system_size, fits_exactly}
-use Rattle.boot.specs.Choice.{Choice, choice_of, fitting, exact, exact_of, smallest_of, chosen_for, chosen}
+use Rattle.boot.specs.Choice.{choice_of, fitting, exact, exact_of, smallest_of, chosen_for, chosen}
 use Rattle.boot.specs.Block.{configuration_of}
 use Rattle.boot.specs.Inner.{smallest_pick, pick_of, pick_for, picked}
 

@@ -9,7 +9,7 @@ use lib.Dec.{eqb, ltb}
 use lib.ListN.{length, get_or, drop, replicate, length-replicate}
 use lib.Seq.{take_all}
 use borrow.Author.Tests.{lt-ltb, not-true, eqb-true}
-use Rattle.rows.specs.Words.{all, any, first, same}
+use Rattle.rows.specs.Words.{all, any, same}
 use Rattle.rows.specs.Rows.{part, row}
 use Rattle.rows.specs.Numbers.{bit_at}
 use Rattle.rows.proofs.BoolLaws.{by_test, both, and_left, and_right, either}

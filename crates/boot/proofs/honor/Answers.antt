@@ -4,7 +4,6 @@ use Rattle.boot.proofs.AnswerLaws.{no_machine, no_product, sent}
 use Rattle.rows.proofs.IndexLaws.{found_if, missing_if}
 use native.Mathlib.Omega.{arith}
 use mathlib.Core.Path.{sym}
-use borrow.Author.Rules.{rules}
 use Rattle.boot.proofs.honor.Goals as goal
 
 pub find-m-requires : goal.find-m-requires

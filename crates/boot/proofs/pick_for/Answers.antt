@@ -1,6 +1,5 @@
 use Rattle.boot.specs.Tables.{machine_rows, user_rows, product_number, machine_options, wanted_os, wants_small}
 use native.Mathlib.Omega.{arith}
-use borrow.Author.Rules.{rules}
 use Rattle.boot.proofs.pick_for.Goals as goal
 
 pub overflow_mul-user_at : goal.overflow_mul-user_at

@@ -8,7 +8,6 @@ use native.Mathlib.Omega.{arith}
 use mathlib.Core.Path.{refl, ap, ◌∙◌}
 use lib.ListN.{length}
 use Prim.Native.Nat.{◌+◌, ◌*◌}
-use borrow.Author.Rules.{rules}
 use Rattle.boot.proofs.send_chosen.Goals as goal
 
 pub overflow_mul-iobyte : goal.overflow_mul-iobyte
@@ -57,7 +56,10 @@ part-menu-requires c = omega (arith, row_end 25 c.requires.1, products_most c.ar
 pub send_pick-requires : goal.send_pick-requires
 send_pick-requires c =
     let a = c.args in
-    (rw c.pick_for-pick.ensures (pick_row (lent a.machines.now a.products.now a.users.now a.configurations.now a.systems.now a.directory.now) a.m a.p _), (ap length c.part-menu.ensures ∙ length_part a.products.now (25 * a.p + 17) 8 (omega (arith, row_end 25 c.requires.1, products_most a.products.now)), ap length c.configuration_of-own.ensures ∙ configuration_long _ _, c.requires.3))
+    record {
+      row_bound = rw c.pick_for-pick.ensures (pick_row (lent a.machines.now a.products.now a.users.now a.configurations.now a.systems.now a.directory.now) a.m a.p _);
+      menu_len = (ap length c.part-menu.ensures ∙ length_part a.products.now (25 * a.p + 17) 8 (omega (arith, row_end 25 c.requires.1, products_most a.products.now)), ap length c.configuration_of-own.ensures ∙ configuration_long _ _, c.requires.3);
+    }
 
 pub returns : goal.returns
 unfolding iobyte os_menu user_of user_known user_rows

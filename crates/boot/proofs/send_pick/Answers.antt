@@ -3,7 +3,6 @@ use Rattle.boot.proofs.SystemLaws.{list_most}
 use native.Mathlib.Omega.{arith}
 use mathlib.Core.Path.{ap}
 use lib.ListN.{length}
-use borrow.Author.Rules.{rules}
 use Rattle.boot.proofs.send_pick.Goals as goal
 
 pub send-requires : goal.send-requires

@@ -1,11 +1,6 @@
-use Rattle.boot.specs.Choice.{name_of, all_there}
+use Rattle.boot.specs.Choice.{name_of}
 use Rattle.directory.specs.Directory.{in_directory}
-use Rattle.rows.proofs.BoolLaws.{passed, refused}
-use Rattle.rows.proofs.IndexLaws.{Passing, pass_starts, pass_on, pass_breaks, pass_ends}
-use Rattle.rows.proofs.RowLaws.{length_part}
-use native.Mathlib.Omega.{arith}
-use mathlib.Core.Path.{ap, ◌∙◌}
-use lib.ListN.{length}
+use Rattle.rows.proofs.IndexLaws.{Passing}
 use Prim.Native.Nat.{◌-◌}
 use Rattle.boot.proofs.block.all_there.Given as goal
 

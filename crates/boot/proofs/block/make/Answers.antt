@@ -3,7 +3,6 @@ use Rattle.rows.proofs.RowLaws.{length_part}
 use native.Mathlib.Omega.{arith}
 use mathlib.Core.Path.{ap, ◌∙◌}
 use lib.ListN.{length, length-set}
-use borrow.Author.Rules.{rules}
 use Rattle.boot.proofs.block.make.Goals as goal
 
 pub put-requires : goal.put-requires
@@ -11,7 +10,7 @@ put-requires c = omega (arith, ap length c.part.ensures, length_part c.args.conf
 
 pub put-requires-2 : goal.put-requires-2
 put-requires-2 c =
-    rw length-set (omega (arith, ap length c.part-2.ensures, length_part c.args.configuration.now 32 32 (omega (arith, c.requires.list_len_bound.1)), c.put.auto.0))
+    rw length-set (omega (arith, ap length c.part-2.ensures, length_part c.args.configuration.now 32 32 (omega (arith, c.requires.list_len_bound.1)), c.put.auto.s))
 
 pub returns : goal.returns
 returns c =

@@ -1,12 +1,8 @@
 use Rattle.boot.specs.Block.{load_entry}
-use Rattle.boot.proofs.BlockLaws.{name_file, entry_long, entry_is}
 use Rattle.rows.specs.Rows.{put, join}
-use Rattle.rows.proofs.RowLaws.{join_none, join_more}
 use lib.ListN.{length}
-use mathlib.Core.Path.{◌≡◌, refl, ap, ◌∙◌}
-use native.Mathlib.Nat.{le_antisymm}
-use native.Mathlib.Omega.{arith}
-use Prim.Native.Nat.{ℕ, ◌-◌, ◌≤◌}
+use mathlib.Core.Path.{◌≡◌}
+use Prim.Native.Nat.{◌-◌, ◌≤◌}
 use Rattle.boot.proofs.block.put_entries.Given as goal
 
 abbrev pub invariant-loop-k : goal.invariant-loop-k

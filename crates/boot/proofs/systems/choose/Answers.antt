@@ -1,7 +1,6 @@
 use Rattle.boot.proofs.ChoiceLaws.{small_wanted, exact_picked, exact_missing}
 use Rattle.boot.specs.Systems.{system_rows}
 use mathlib.Core.Path.{◌∙◌}
-use borrow.Author.Rules.{rules}
 use Rattle.boot.proofs.systems.choose.Goals as goal
 
 pub returns-then-small : goal.returns-then-small

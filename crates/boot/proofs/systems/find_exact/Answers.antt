@@ -1,8 +1,6 @@
-use Rattle.boot.specs.Systems.{system_rows, fits_exactly}
-use Rattle.rows.proofs.IndexLaws.{Searching, search_starts, search_on, search_hit, search_ends}
-use native.Mathlib.Omega.{arith}
+use Rattle.boot.specs.Systems.{system_rows}
+use Rattle.rows.proofs.IndexLaws.{search_starts, search_on, search_hit, search_ends}
 use mathlib.Core.Path.{sym, ◌∙◌}
-use Prim.Native.Nat.{◌-◌}
 use Rattle.boot.proofs.systems.find_exact.Goals as goal
 
 pub loop-i-init : goal.loop-i-init

@@ -1,7 +1,5 @@
-use Rattle.boot.specs.Systems.{system_rows, fits_exactly}
-use Rattle.rows.proofs.IndexLaws.{Searching, search_starts, search_on, search_hit, search_ends}
-use native.Mathlib.Omega.{arith}
-use mathlib.Core.Path.{sym, ◌∙◌}
+use Rattle.boot.specs.Systems.{fits_exactly}
+use Rattle.rows.proofs.IndexLaws.{Searching}
 use Prim.Native.Nat.{◌-◌}
 use Rattle.boot.proofs.systems.find_exact.Given as goal
 

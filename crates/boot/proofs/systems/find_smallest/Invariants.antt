@@ -1,8 +1,5 @@
-use Rattle.boot.specs.Systems.{system_rows, fits, system_size}
-use Rattle.boot.specs.Inner.{weight}
-use Rattle.boot.proofs.SystemLaws.{size_small}
-use Rattle.rows.proofs.SmallestLaws.{SmallestSoFar, so_far_starts, so_far_takes, so_far_stays, so_far_ends}
-use native.Mathlib.Omega.{arith}
+use Rattle.boot.specs.Systems.{fits, system_size}
+use Rattle.rows.proofs.SmallestLaws.{SmallestSoFar}
 use Prim.Native.Nat.{◌-◌}
 use Rattle.boot.proofs.systems.find_smallest.Given as goal
 

@@ -6,7 +6,6 @@ use lib.ListN.{get_or}
 use native.Mathlib.Omega.{arith}
 use mathlib.Core.Path.{sym, ap, ◌∙◌}
 use Prim.Native.Nat.{ℕ, ◌/◌, ◌%◌, ◌^◌}
-use borrow.Author.Rules.{rules}
 use Rattle.boot.proofs.systems.in_map.Goals as goal
 
 pub bounds-map-bit : goal.bounds-map-bit
@@ -18,5 +17,5 @@ returns c =
     let bit = c.index_of-bit in
     let byte = get_or c.args.map.now (bit.result / 8) 0 in
     ap (λ (y : ℕ). eqb y 1) (and_mask (byte / 2 ^ (bit.result % 8)) 1)
-    ∙ sym (bit_in_byte c.args.map.now (λ i. (c.shared_slice_known-1.given i).fits) bit.result)
+    ∙ sym (bit_in_byte c.args.map.now (λ i. (c.type_inv.map i).fits) bit.result)
     ∙ ap (bit_at _) (bit.ensures.0 ∙ c.seven_bits.ensures.0)

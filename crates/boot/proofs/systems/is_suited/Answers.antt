@@ -1,10 +1,8 @@
 use Rattle.boot.specs.Systems.{system_rows, suits, product_fits}
-use Rattle.rows.proofs.BoolLaws.{passed, refused}
 use Rattle.rows.proofs.RowLaws.{length_part}
 use native.Mathlib.Omega.{arith}
 use mathlib.Core.Path.{sym, ap, ◌∙◌}
 use lib.ListN.{length}
-use borrow.Author.Rules.{rules}
 use Rattle.boot.proofs.systems.is_suited.Goals as goal
 
 pub overflow_mul-at : goal.overflow_mul-at
@@ -17,7 +15,7 @@ bounds-systems-at c = omega (arith, c.requires)
 
 pub returns-then-not-os_fits : goal.returns-then-not-os_fits
 unfolding suits
-returns-then-not-os_fits c = rw (refused c.os_fits.ensures c.if-not-os_fits.true)
+returns-then-not-os_fits c = rw (sym c.os_fits.ensures ∙ c.if-not-os_fits.true)
 
 pub overflow_add-at : goal.overflow_add-at
 unfolding system_rows
@@ -33,4 +31,4 @@ in_map-requires c = ap length c.part.ensures ∙ length_part _ _ 16 (omega (arit
 
 pub returns : goal.returns
 unfolding suits product_fits
-returns c = rw (passed c.os_fits.ensures c.if-not-os_fits.false, sym c.part.ensures) c.in_map.ensures
+returns c = rw (sym c.os_fits.ensures ∙ c.if-not-os_fits.false, sym c.part.ensures) c.in_map.ensures

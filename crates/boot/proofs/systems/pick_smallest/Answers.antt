@@ -1,6 +1,5 @@
 use Rattle.boot.proofs.ChoiceLaws.{smallest_picked, none_picked}
 use Rattle.boot.specs.Systems.{system_rows}
-use borrow.Author.Rules.{rules}
 use Rattle.boot.proofs.systems.pick_smallest.Goals as goal
 
 pub returns-then-row-systems : goal.returns-then-row-systems

@@ -1,34 +1,33 @@
 use Rattle.boot.specs.Tables.{all_whole}
-use Rattle.rows.proofs.BoolLaws.{passed, refused}
-use native.Mathlib.Omega.{arith}
+use mathlib.Core.Path.{sym, ◌∙◌}
 use Rattle.boot.proofs.tables.are_whole.Goals as goal
 
 pub returns-then-not-is_whole : goal.returns-then-not-is_whole
 unfolding all_whole
 returns-then-not-is_whole c =
-    rw (refused c.is_whole.ensures c.if-not-is_whole.true)
+    rw (sym c.is_whole.ensures ∙ c.if-not-is_whole.true)
 
 pub returns-then-not-is_whole-2 : goal.returns-then-not-is_whole-2
 unfolding all_whole
 returns-then-not-is_whole-2 c =
-    rw (passed c.is_whole.ensures c.if-not-is_whole.false, refused c.is_whole-2.ensures c.if-not-is_whole-2.true)
+    rw (sym c.is_whole.ensures ∙ c.if-not-is_whole.false, sym c.is_whole-2.ensures ∙ c.if-not-is_whole-2.true)
 
 pub returns-then-not-is_whole-3 : goal.returns-then-not-is_whole-3
 unfolding all_whole
 returns-then-not-is_whole-3 c =
-    rw (passed c.is_whole.ensures c.if-not-is_whole.false, passed c.is_whole-2.ensures c.if-not-is_whole-2.false, refused c.is_whole-3.ensures c.if-not-is_whole-3.true)
+    rw (sym c.is_whole.ensures ∙ c.if-not-is_whole.false, sym c.is_whole-2.ensures ∙ c.if-not-is_whole-2.false, sym c.is_whole-3.ensures ∙ c.if-not-is_whole-3.true)
 
 pub returns-then-not-is_whole-4 : goal.returns-then-not-is_whole-4
 unfolding all_whole
 returns-then-not-is_whole-4 c =
-    rw (passed c.is_whole.ensures c.if-not-is_whole.false, passed c.is_whole-2.ensures c.if-not-is_whole-2.false, passed c.is_whole-3.ensures c.if-not-is_whole-3.false, refused c.is_whole-4.ensures c.if-not-is_whole-4.true)
+    rw (sym c.is_whole.ensures ∙ c.if-not-is_whole.false, sym c.is_whole-2.ensures ∙ c.if-not-is_whole-2.false, sym c.is_whole-3.ensures ∙ c.if-not-is_whole-3.false, sym c.is_whole-4.ensures ∙ c.if-not-is_whole-4.true)
 
 pub returns-then-not-is_whole-5 : goal.returns-then-not-is_whole-5
 unfolding all_whole
 returns-then-not-is_whole-5 c =
-    rw (passed c.is_whole.ensures c.if-not-is_whole.false, passed c.is_whole-2.ensures c.if-not-is_whole-2.false, passed c.is_whole-3.ensures c.if-not-is_whole-3.false, passed c.is_whole-4.ensures c.if-not-is_whole-4.false, refused c.is_whole-5.ensures c.if-not-is_whole-5.true)
+    rw (sym c.is_whole.ensures ∙ c.if-not-is_whole.false, sym c.is_whole-2.ensures ∙ c.if-not-is_whole-2.false, sym c.is_whole-3.ensures ∙ c.if-not-is_whole-3.false, sym c.is_whole-4.ensures ∙ c.if-not-is_whole-4.false, sym c.is_whole-5.ensures ∙ c.if-not-is_whole-5.true)
 
 pub returns : goal.returns
 unfolding all_whole
 returns c =
-    rw (passed c.is_whole.ensures c.if-not-is_whole.false, passed c.is_whole-2.ensures c.if-not-is_whole-2.false, passed c.is_whole-3.ensures c.if-not-is_whole-3.false, passed c.is_whole-4.ensures c.if-not-is_whole-4.false, passed c.is_whole-5.ensures c.if-not-is_whole-5.false) c.is_whole-6.ensures
+    rw (sym c.is_whole.ensures ∙ c.if-not-is_whole.false, sym c.is_whole-2.ensures ∙ c.if-not-is_whole-2.false, sym c.is_whole-3.ensures ∙ c.if-not-is_whole-3.false, sym c.is_whole-4.ensures ∙ c.if-not-is_whole-4.false, sym c.is_whole-5.ensures ∙ c.if-not-is_whole-5.false) c.is_whole-6.ensures

@@ -5,7 +5,6 @@ use mathlib.Core.Path.{refl, ap, ◌∙◌}
 use lib.ListN.{length}
 use Prim.Native.Nat.{◌*◌}
 use borrow.Author.Tests.{lt-ltb, le-ltb}
-use borrow.Author.Rules.{rules}
 use Rattle.boot.proofs.tables.configuration_of.Goals as goal
 
 pub returns-then-configurations-i : goal.returns-then-configurations-i

@@ -1,9 +1,7 @@
 use Rattle.boot.specs.Tables.{is_product}
-use Rattle.rows.proofs.IndexLaws.{Searching, search_starts, search_on, search_hit, search_ends}
-use native.Mathlib.Omega.{arith}
+use Rattle.rows.proofs.IndexLaws.{search_starts, search_on, search_hit, search_ends}
 use mathlib.Core.Path.{sym, ◌∙◌}
 use borrow.Author.Tests.{eq-eqb, ne_eqb}
-use Prim.Native.Nat.{◌-◌}
 use Rattle.boot.proofs.tables.find_product.Goals as goal
 
 pub loop-i-init : goal.loop-i-init

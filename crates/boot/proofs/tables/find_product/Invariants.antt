@@ -1,8 +1,5 @@
 use Rattle.boot.specs.Tables.{is_product}
-use Rattle.rows.proofs.IndexLaws.{Searching, search_starts, search_on, search_hit, search_ends}
-use native.Mathlib.Omega.{arith}
-use mathlib.Core.Path.{sym, ◌∙◌}
-use borrow.Author.Tests.{eq-eqb, ne_eqb}
+use Rattle.rows.proofs.IndexLaws.{Searching}
 use Prim.Native.Nat.{◌-◌}
 use Rattle.boot.proofs.tables.find_product.Given as goal
 

@@ -1,9 +1,7 @@
-use Rattle.boot.specs.Tables.{user_rows, is_user, user_of}
+use Rattle.boot.specs.Tables.{user_rows, user_of}
 use Rattle.boot.proofs.TableLaws.{user_match}
-use Rattle.rows.proofs.IndexLaws.{Searching, search_starts, search_on, search_hit, search_ends}
-use native.Mathlib.Omega.{arith}
+use Rattle.rows.proofs.IndexLaws.{search_starts, search_on, search_hit, search_ends}
 use mathlib.Core.Path.{◌∙◌}
-use Prim.Native.Nat.{◌-◌}
 use Rattle.boot.proofs.tables.find_user.Goals as goal
 
 pub pattern_of-pattern-requires : goal.pattern_of-pattern-requires
@@ -19,12 +17,12 @@ is_user-requires c = c.loop-i-test.true
 pub returns-then-is_user : goal.returns-then-is_user
 unfolding user_of user_rows
 returns-then-is_user c =
-    search_hit _ _ c.loop-i.invariant c.loop-i-test.true (user_match _ _ _ _ (λ i. (c.shared_slice_known-1.given i).fits) (λ i. (c.shared_slice_known-2-1.given i).fits) c.requires c.loop-i-test.true c.pattern_of-pattern.ensures c.is_user.ensures ∙ c.if-is_user.true)
+    search_hit _ _ c.loop-i.invariant c.loop-i-test.true (user_match _ _ _ _ (λ i. (c.type_inv.users i).fits) (λ i. (c.type_inv.name i).fits) c.requires c.loop-i-test.true c.pattern_of-pattern.ensures c.is_user.ensures ∙ c.if-is_user.true)
 
 pub loop-i-preserved : goal.loop-i-preserved
 unfolding user_rows
 loop-i-preserved c =
-    search_on _ _ c.loop-i.invariant c.loop-i-test.true (user_match _ _ _ _ (λ i. (c.shared_slice_known-1.given i).fits) (λ i. (c.shared_slice_known-2-1.given i).fits) c.requires c.loop-i-test.true c.pattern_of-pattern.ensures c.is_user.ensures ∙ c.if-is_user.false)
+    search_on _ _ c.loop-i.invariant c.loop-i-test.true (user_match _ _ _ _ (λ i. (c.type_inv.users i).fits) (λ i. (c.type_inv.name i).fits) c.requires c.loop-i-test.true c.pattern_of-pattern.ensures c.is_user.ensures ∙ c.if-is_user.false)
 
 pub returns : goal.returns
 unfolding user_of user_rows

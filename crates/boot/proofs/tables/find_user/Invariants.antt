@@ -1,8 +1,5 @@
-use Rattle.boot.specs.Tables.{user_rows, is_user, user_of}
-use Rattle.boot.proofs.TableLaws.{user_match}
-use Rattle.rows.proofs.IndexLaws.{Searching, search_starts, search_on, search_hit, search_ends}
-use native.Mathlib.Omega.{arith}
-use mathlib.Core.Path.{◌∙◌}
+use Rattle.boot.specs.Tables.{is_user}
+use Rattle.rows.proofs.IndexLaws.{Searching}
 use Prim.Native.Nat.{◌-◌}
 use Rattle.boot.proofs.tables.find_user.Given as goal
 

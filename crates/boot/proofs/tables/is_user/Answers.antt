@@ -1,10 +1,8 @@
 use Rattle.boot.specs.Tables.{user_rows}
-use Rattle.rows.proofs.BoolLaws.{passed, refused}
 use Rattle.rows.proofs.RowLaws.{length_part}
 use native.Mathlib.Omega.{arith}
 use mathlib.Core.Path.{ap, sym, ◌∙◌}
 use lib.ListN.{length}
-use borrow.Author.Rules.{rules}
 use Rattle.boot.proofs.tables.is_user.Goals as goal
 
 pub overflow_mul-at : goal.overflow_mul-at
@@ -20,7 +18,7 @@ unfolding user_rows
 matches-requires c = ap length c.part.ensures ∙ length_part _ _ 8 (omega (arith, c.requires))
 
 pub returns-then-not-matches : goal.returns-then-not-matches
-returns-then-not-matches c = rw (sym c.part.ensures, refused c.matches.ensures c.if-not-matches.true)
+returns-then-not-matches c = rw (sym c.part.ensures, sym c.matches.ensures ∙ c.if-not-matches.true)
 
 pub overflow_add-at : goal.overflow_add-at
 unfolding user_rows
@@ -32,4 +30,4 @@ part-requires-2 c = omega (arith, c.requires)
 
 pub returns : goal.returns
 returns c =
-    rw (sym c.part.ensures, passed c.matches.ensures c.if-not-matches.false, sym c.part-2.ensures) c.is_same.ensures.answer
+    rw (sym c.part.ensures, sym c.matches.ensures ∙ c.if-not-matches.false, sym c.part-2.ensures) c.is_same.ensures.answer

@@ -1,6 +1,4 @@
 use Rattle.boot.specs.Tables.{product_rows}
-use native.Mathlib.Omega.{arith}
-use borrow.Author.Rules.{rules}
 use Rattle.boot.proofs.tables.product_rows.Goals as goal
 
 pub returns : goal.returns
