@@ -1,5 +1,4 @@
 use mathlib.Core.Path.{◌∙◌, ap}
-use borrow.Author.Rules.{rules}
 use Rattle.params.specs.Blocks.{cpm_bytes, msdos_bytes, block_bytes}
 use Rattle.params.proofs.block_bytes.Goals as goal
 

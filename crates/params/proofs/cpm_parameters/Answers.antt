@@ -1,6 +1,4 @@
 use mathlib.Core.Path.{◌∙◌, sym}
-use borrow.Author.Tests.{not-true, not-false}
-use borrow.Author.Rules.{rules}
 use Rattle.params.specs.Answers.{cpm_parameters}
 use Rattle.params.proofs.cpm_parameters.Goals as goal
 

@@ -1,6 +1,4 @@
 use mathlib.Core.Path.{◌∙◌, sym}
-use borrow.Author.Tests.{not-true, not-false}
-use borrow.Author.Rules.{rules}
 use Rattle.params.specs.Answers.{msdos_parameters}
 use Rattle.params.proofs.msdos_parameters.Goals as goal
 

@@ -1,6 +1,5 @@
 use mathlib.Core.Path.{◌∙◌}
 use borrow.Author.Tests.{lt-ltb, le-ltb}
-use borrow.Author.Rules.{rules}
 use Rattle.rows.proofs.RowLaws.{over_first}
 use Rattle.params.specs.Answers.{room_refusal}
 use Rattle.params.proofs.put_block.Goals as goal

@@ -1,6 +1,5 @@
 use mathlib.Core.Path.{refl}
 use native.Mathlib.Omega.{arith}
-use borrow.Author.Rules.{rules}
 use Rattle.params.proofs.TableLaws.{sized_is}
 use Rattle.params.proofs.row_of.Goals as goal
 

@@ -1,6 +1,4 @@
 use mathlib.Core.Path.{◌∙◌, sym}
-use borrow.Author.Tests.{not-true, not-false}
-use borrow.Author.Rules.{rules}
 use Rattle.params.proofs.AnswerLaws.{writes_not_sized, writes_sized}
 use Rattle.params.proofs.write.Goals as goal
 

@@ -2,7 +2,6 @@ use mathlib.Core.Path.{ap, ◌∙◌}
 use mathlib.Core.List.{List, []}
 use Prim.Native.Nat.{ℕ}
 use lib.ListN.{get_or, get_or-map}
-use borrow.Author.Rules.{rules}
 use Rattle.params.specs.declared.CpmBlock.{CpmBlock}
 use Rattle.params.specs.Tables.{cpm_table}
 use Rattle.params.specs.Blocks.{cpm_of, cpm_block}
