@@ -5,8 +5,7 @@ ghost use Rattle.hinet.specs.BootEntries.{SystemChosen};
 use crate::packing;
 
 // Chooses the system: 23, 13, or the honor flag.
-#[unsafe(no_mangle)]
-pub extern "C" fn hinet_boot(
+pub fn hinet_boot(
     serial: &[u8; 4],
     name: &[u8; 8],
     password: &[u8; 6],

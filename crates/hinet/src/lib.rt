@@ -4,28 +4,26 @@
 // that write disk parameters in parameters.rt, those of the line in line.rt, the one that chooses a system in booting.rt.
 #![tactic(auto)]
 
-mod booting;
+pub mod booting;
 mod given;
-mod line;
+pub mod line;
 mod packing;
-mod parameters;
-mod requests;
-mod station_end;
+pub mod parameters;
+pub mod requests;
+pub mod station_end;
 
 ghost use Rattle.rows.specs.Outcomes.{Gives};
 ghost use Rattle.hinet.specs.Entries.{tables_word, site_word, address_of, place_word, due_word, Freshened, Served, Polled};
 
 // Fills fresh tables; 11 for another size.
-#[unsafe(no_mangle)]
-pub extern "C" fn hinet_fresh(locks: &mut [u8], stations: &mut [u8]) -> u64
+pub fn hinet_fresh(locks: &mut [u8], stations: &mut [u8]) -> u64
     ensures { Freshened locks.old stations.old result locks.new stations.new }
 {
     packing::pack(master::fresh(locks, stations))
 }
 
 // 11, or 0 where the tables are good.
-#[unsafe(no_mangle)]
-pub extern "C" fn hinet_check_tables(locks: &[u8], stations: &[u8]) -> u64
+pub fn hinet_check_tables(locks: &[u8], stations: &[u8]) -> u64
     ensures { Gives (tables_word locks.now stations.now) result }
 {
     if master::tables_good(locks, stations) {
@@ -36,16 +34,14 @@ pub extern "C" fn hinet_check_tables(locks: &[u8], stations: &[u8]) -> u64
 }
 
 // 10 with the first fault, or 0 where the site file is good.
-#[unsafe(no_mangle)]
-pub extern "C" fn hinet_check_site(site: &[u8]) -> u64
+pub fn hinet_check_site(site: &[u8]) -> u64
     ensures { Gives (site_word site.now) result }
 {
     packing::pack_checked(site::check(site))
 }
 
 // One frame at the number polled: 11, 10 with the first fault, 1 to 9, or what the frame does.
-#[unsafe(no_mangle)]
-pub extern "C" fn hinet_frame(
+pub fn hinet_frame(
     number: u32,
     frame: &[u8],
     site: &[u8],
@@ -58,24 +54,21 @@ pub extern "C" fn hinet_frame(
 }
 
 // One poll turn of the number: 11, 2, 5, 12, or was it due and did it end in a logout.
-#[unsafe(no_mangle)]
-pub extern "C" fn hinet_poll(number: u32, heard: u32, locks: &mut [u8], stations: &mut [u8]) -> u64
+pub fn hinet_poll(number: u32, heard: u32, locks: &mut [u8], stations: &mut [u8]) -> u64
     ensures { Polled number heard locks.old stations.old result locks.new stations.new }
 {
     packing::pack_turn(master::poll_turn(number, heard != 0, locks, stations))
 }
 
 // Is the next poll turn of the number due: 11, 2, 5, or due and no logout.
-#[unsafe(no_mangle)]
-pub extern "C" fn hinet_due(number: u32, locks: &[u8], stations: &[u8]) -> u64
+pub fn hinet_due(number: u32, locks: &[u8], stations: &[u8]) -> u64
     ensures { Gives (due_word number locks.now stations.now) result }
 {
     packing::pack_turn(master::due(number, locks, stations))
 }
 
 // The place of an address: 10 with the first fault, 8, 9, or volume and sector. A volume or partition above 255 names no row.
-#[unsafe(no_mangle)]
-pub extern "C" fn hinet_place(
+pub fn hinet_place(
     volume: u32,
     partition: u32,
     track: u32,

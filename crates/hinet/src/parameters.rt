@@ -13,16 +13,14 @@ fn write_block(system: System, size: u32, buffer: &mut [u8]) -> u64
 }
 
 // CP/M 2.2's disk parameter block.
-#[unsafe(no_mangle)]
-pub extern "C" fn hinet_cpm_parameters(size: u32, buffer: &mut [u8]) -> u64
+pub fn hinet_cpm_parameters(size: u32, buffer: &mut [u8]) -> u64
     ensures { Parameters Cpm size buffer.old result buffer.new }
 {
     write_block(System::Cpm, size, buffer)
 }
 
 // MS-DOS 2.0's parameter block, up to sectors per track.
-#[unsafe(no_mangle)]
-pub extern "C" fn hinet_msdos_parameters(size: u32, buffer: &mut [u8]) -> u64
+pub fn hinet_msdos_parameters(size: u32, buffer: &mut [u8]) -> u64
     ensures { Parameters Msdos size buffer.old result buffer.new }
 {
     write_block(System::Msdos, size, buffer)

@@ -19,16 +19,14 @@ fn compose(q: Request, buffer: &mut [u8]) -> u64
 }
 
 // 41: acknowledge.
-#[unsafe(no_mangle)]
-pub extern "C" fn hinet_write_acknowledge(buffer: &mut [u8]) -> u64
+pub fn hinet_write_acknowledge(buffer: &mut [u8]) -> u64
     ensures { Composes (plain Acknowledge) buffer.old result buffer.new }
 {
     compose(frames::plain(Command::Acknowledge), buffer)
 }
 
 // 11: read the sector at an address.
-#[unsafe(no_mangle)]
-pub extern "C" fn hinet_write_read(
+pub fn hinet_write_read(
     src: u32,
     volume: u32,
     partition: u32,
@@ -44,8 +42,7 @@ pub extern "C" fn hinet_write_read(
 }
 
 // 12: write the sector at an address.
-#[unsafe(no_mangle)]
-pub extern "C" fn hinet_write_write(
+pub fn hinet_write_write(
     src: u32,
     volume: u32,
     partition: u32,
@@ -73,8 +70,7 @@ fn named(command: Command, name: &[u8; 8], password: &[u8; 6]) -> Request
 }
 
 // 13: login.
-#[unsafe(no_mangle)]
-pub extern "C" fn hinet_write_login(
+pub fn hinet_write_login(
     name: &[u8; 8],
     password: &[u8; 6],
     serial: &[u8; 4],
@@ -90,8 +86,7 @@ pub extern "C" fn hinet_write_login(
 }
 
 // 17: assign a partition.
-#[unsafe(no_mangle)]
-pub extern "C" fn hinet_write_assign(name: &[u8; 8], password: &[u8; 6], buffer: &mut [u8]) -> u64
+pub fn hinet_write_assign(name: &[u8; 8], password: &[u8; 6], buffer: &mut [u8]) -> u64
     ensures { Composes (named_of Assign name.now password.now) buffer.old result buffer.new }
 {
     compose(named(Command::Assign, name, password), buffer)
@@ -108,32 +103,28 @@ fn with_string(command: Command, lockstring: &[u8; 14]) -> Request
 }
 
 // 19: lock.
-#[unsafe(no_mangle)]
-pub extern "C" fn hinet_write_lock(lockstring: &[u8; 14], buffer: &mut [u8]) -> u64
+pub fn hinet_write_lock(lockstring: &[u8; 14], buffer: &mut [u8]) -> u64
     ensures { Composes (string_of Lock (string_at lockstring.now 0)) buffer.old result buffer.new }
 {
     compose(with_string(Command::Lock, lockstring), buffer)
 }
 
 // 1A: unlock.
-#[unsafe(no_mangle)]
-pub extern "C" fn hinet_write_unlock(lockstring: &[u8; 14], buffer: &mut [u8]) -> u64
+pub fn hinet_write_unlock(lockstring: &[u8; 14], buffer: &mut [u8]) -> u64
     ensures { Composes (string_of Unlock (string_at lockstring.now 0)) buffer.old result buffer.new }
 {
     compose(with_string(Command::Unlock, lockstring), buffer)
 }
 
 // 1B: clear all locks.
-#[unsafe(no_mangle)]
-pub extern "C" fn hinet_write_clear(buffer: &mut [u8]) -> u64
+pub fn hinet_write_clear(buffer: &mut [u8]) -> u64
     ensures { Composes (plain Clear) buffer.old result buffer.new }
 {
     compose(frames::plain(Command::Clear), buffer)
 }
 
 // 1F: instant logout.
-#[unsafe(no_mangle)]
-pub extern "C" fn hinet_write_logout(src: u32, buffer: &mut [u8]) -> u64
+pub fn hinet_write_logout(src: u32, buffer: &mut [u8]) -> u64
     ensures { Composes (logout_of src) buffer.old result buffer.new }
 {
     let src = given::byte_of(src);
@@ -141,8 +132,7 @@ pub extern "C" fn hinet_write_logout(src: u32, buffer: &mut [u8]) -> u64
 }
 
 // Reads a frame by itself: 1, 3, 4, 6, or its code.
-#[unsafe(no_mangle)]
-pub extern "C" fn hinet_read_frame(frame: &[u8]) -> u64
+pub fn hinet_read_frame(frame: &[u8]) -> u64
     ensures { Gives (read_word frame.now) result }
 {
     let refusal = frames::read(frame).refusal;

@@ -5,40 +5,35 @@ ghost use Rattle.hinet.specs.StationEntries.{Freshly, Locks, Unlocks, Clears, Se
 use crate::{given, packing};
 
 // An empty list, and no reply awaited: 11 for another size.
-#[unsafe(no_mangle)]
-pub extern "C" fn hinet_station_fresh(station: &mut [u8]) -> u64
+pub fn hinet_station_fresh(station: &mut [u8]) -> u64
     ensures { Freshly station.old result station.new }
 {
     packing::pack_step(station::fresh(station))
 }
 
 // Asks for a lock: 11, 14.
-#[unsafe(no_mangle)]
-pub extern "C" fn hinet_station_lock(station: &mut [u8], lockstring: &[u8; 14]) -> u64
+pub fn hinet_station_lock(station: &mut [u8], lockstring: &[u8; 14]) -> u64
     ensures { Locks station.old (string_at lockstring.now 0) result station.new }
 {
     packing::pack_step(station::ask_lock(station, given::string_of(lockstring)))
 }
 
 // Asks to unlock: 11, 14.
-#[unsafe(no_mangle)]
-pub extern "C" fn hinet_station_unlock(station: &mut [u8], lockstring: &[u8; 14]) -> u64
+pub fn hinet_station_unlock(station: &mut [u8], lockstring: &[u8; 14]) -> u64
     ensures { Unlocks station.old (string_at lockstring.now 0) result station.new }
 {
     packing::pack_step(station::ask_unlock(station, given::string_of(lockstring)))
 }
 
 // Asks to clear all locks: 11, 14.
-#[unsafe(no_mangle)]
-pub extern "C" fn hinet_station_clear(station: &mut [u8]) -> u64
+pub fn hinet_station_clear(station: &mut [u8]) -> u64
     ensures { Clears station.old result station.new }
 {
     packing::pack_step(station::ask_clear(station))
 }
 
 // Writes the frame awaited and tells its length, 0 where nothing is awaited: 11, 13.
-#[unsafe(no_mangle)]
-pub extern "C" fn hinet_station_frame(station: &[u8], buffer: &mut [u8]) -> u64
+pub fn hinet_station_frame(station: &[u8], buffer: &mut [u8]) -> u64
     ensures { Sends station.now buffer.old result buffer.new }
 {
     let sent = station::send(station, buffer);
@@ -46,8 +41,7 @@ pub extern "C" fn hinet_station_frame(station: &[u8], buffer: &mut [u8]) -> u64
 }
 
 // Takes a reply to the frame awaited: 11, 15. A number above 255 is taken for 255, which no request lists either.
-#[unsafe(no_mangle)]
-pub extern "C" fn hinet_station_reply(station: &mut [u8], reply: u32) -> u64
+pub fn hinet_station_reply(station: &mut [u8], reply: u32) -> u64
     ensures { Takes station.old reply result station.new }
 {
     packing::pack_step(station::take_reply(station, given::byte_of(reply)))

@@ -1,0 +1,33 @@
+// The entries of the line.
+ghost use Rattle.hinet.specs.LineEntries.{LineWrites, LineReads, LineServed};
+
+// Writes a frame's bits: 17, 13, or how many they are.
+#[unsafe(no_mangle)]
+pub extern "C" fn hinet_line_write(user: u8, data: &[u8], bits: &mut [u8]) -> u64
+    ensures { LineWrites user «data».now bits.old result bits.new }
+{
+    hinet::line::hinet_line_write(user, data, bits)
+}
+
+// Reads a frame's bits: 18, 19, 20, 21, 17, 22, 13, or user number and length.
+#[unsafe(no_mangle)]
+pub extern "C" fn hinet_line_read(bits: &[u8], bit_count: usize, data: &mut [u8]) -> u64
+    ensures { LineReads bits.now bit_count «data».old result «data».new }
+{
+    hinet::line::hinet_line_read(bits, bit_count, data)
+}
+
+// One frame from the line at the number polled: 18, 19, 20, 21, 17, 22; then as hinet_frame, or another's number and length.
+#[unsafe(no_mangle)]
+pub extern "C" fn hinet_line_frame(
+    number: u32,
+    bits: &[u8],
+    bit_count: usize,
+    site: &[u8],
+    locks: &mut [u8],
+    stations: &mut [u8],
+) -> u64
+    ensures { LineServed number bits.now bit_count site.now locks.old stations.old result locks.new stations.new }
+{
+    hinet::line::hinet_line_frame(number, bits, bit_count, site, locks, stations)
+}
