@@ -68,13 +68,7 @@ pub fn hinet_due(number: u32, locks: &[u8], stations: &[u8]) -> u64
 }
 
 // The place of an address: 10 with the first fault, 8, 9, or volume and sector. A volume or partition above 255 names no row.
-pub fn hinet_place(
-    volume: u32,
-    partition: u32,
-    track: u32,
-    sector: u32,
-    site: &[u8],
-) -> u64
+pub fn hinet_place(volume: u32, partition: u32, track: u32, sector: u32, site: &[u8]) -> u64
     ensures { Gives (place_word site.now (address_of volume partition track sector)) result }
 {
     packing::pack_place(site::place(site, given::address_of(volume, partition, track, sector)))

@@ -2,7 +2,6 @@ use Rattle.hinet.specs.Packing.{word}
 use Rattle.hinet.specs.Entries.{checked_told, site_told, site_word}
 use Rattle.site.specs.declared.Checked.{Checked}
 use mathlib.Core.Path.{ap, ◌∙◌}
-use borrow.Author.Rules.{rules}
 use Rattle.hinet.proofs.hinet_check_site.Goals as goal
 
 pub returns : goal.returns

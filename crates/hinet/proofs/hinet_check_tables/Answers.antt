@@ -1,6 +1,5 @@
 use Rattle.hinet.specs.Entries.{tables_word}
 use mathlib.Core.Path.{sym, ◌∙◌}
-use borrow.Author.Rules.{rules}
 use Rattle.hinet.proofs.hinet_check_tables.Goals as goal
 
 pub returns-then-tables_good : goal.returns-then-tables_good

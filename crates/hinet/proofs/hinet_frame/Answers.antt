@@ -1,6 +1,5 @@
 use Rattle.hinet.specs.Packing.{word}
 use mathlib.Core.Path.{ap, ◌∙◌}
-use borrow.Author.Rules.{rules}
 use Rattle.hinet.proofs.hinet_frame.Goals as goal
 
 pub returns : goal.returns

@@ -4,7 +4,6 @@ use Rattle.hinet.specs.Packing.{word}
 use Rattle.site.specs.declared.Located.{Located}
 use Rattle.site.specs.Places.{placed_by}
 use mathlib.Core.Path.{ap, ◌∙◌}
-use borrow.Author.Rules.{rules}
 use Rattle.hinet.proofs.hinet_place.Goals as goal
 
 pub returns : goal.returns

@@ -1,7 +1,6 @@
 use Rattle.hinet.specs.Entries.{is_heard}
 use Rattle.hinet.specs.Packing.{word}
 use mathlib.Core.Path.{ap, ◌∙◌}
-use borrow.Author.Rules.{rules}
 use Rattle.hinet.proofs.hinet_poll.Goals as goal
 
 pub returns : goal.returns

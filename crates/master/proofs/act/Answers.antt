@@ -21,7 +21,6 @@ use lib.Dec.{eqb}
 use mathlib.Core.List.{List}
 use mathlib.Core.Bool.{true}
 use Prim.Native.Nat.{ℕ}
-use borrow.Author.Rules.{rules}
 use Rattle.master.specs.Inner.{Performs}
 use Rattle.master.proofs.act.Goals as goal
 

@@ -2,10 +2,8 @@ use Rattle.master.proofs.DueLaws.{due_bad, due_refused, due_seated, due_answered
 use Rattle.master.specs.Answers.{turn_told}
 use Rattle.master.specs.Polls.{due_now, station_at}
 use Rattle.who.proofs.WhoLaws.{good_is}
-use borrow.Author.Tests.{not-true, not-false}
 use mathlib.Core.Path.{sym, ◌∙◌}
 use native.Mathlib.Omega.{arith}
-use borrow.Author.Rules.{rules}
 use Rattle.master.proofs.due.Goals as goal
 
 pub returns-then-not-is_good : goal.returns-then-not-is_good

@@ -1,7 +1,6 @@
 use Rattle.master.specs.Fresh.{sized, fresh_effect}
 use Rattle.master.specs.Answers.{told}
 use borrow.Author.Tests.{eq-eqb, ne_eqb}
-use borrow.Author.Rules.{rules}
 use Rattle.master.specs.Effects.{unless}
 use Rattle.master.proofs.fresh.Goals as goal
 

@@ -1,10 +1,8 @@
 use Rattle.master.proofs.PollLaws.{polls_refused, poll_bad_tables}
 use Rattle.master.proofs.RowTies.{row_missing, turn_below, polls_written}
 use Rattle.who.proofs.RowLaws.{row_is}
-use borrow.Author.Tests.{not-true, not-false}
 use mathlib.Core.Path.{sym, ◌∙◌}
 use native.Mathlib.Omega.{arith}
-use borrow.Author.Rules.{rules}
 use Rattle.master.proofs.poll_turn.Goals as goal
 
 pub returns-then-not-is_row : goal.returns-then-not-is_row

@@ -3,10 +3,8 @@ use Rattle.master.specs.declared.Answer.TheVariants.{Faulty}
 use Rattle.master.specs.Frames.{Serves}
 use Rattle.site.specs.declared.Fault.{Fault}
 use Rattle.site.proofs.FaultLaws.{checked_good, checked_is}
-use borrow.Author.Tests.{not-true, not-false}
 use native.Mathlib.Omega.{arith}
 use mathlib.Core.Path.{sym, subst, ◌∙◌}
-use borrow.Author.Rules.{rules}
 use Rattle.master.proofs.serve.Goals as goal
 
 pub returns-then-not-tables_good : goal.returns-then-not-tables_good

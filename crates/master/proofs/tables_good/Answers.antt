@@ -1,11 +1,9 @@
 use Rattle.master.specs.Tables.{good_tables}
 use Rattle.locks.specs.Good.{good_locks}
 use Rattle.who.proofs.WhoLaws.{good_is, word_logged}
-use borrow.Author.Tests.{not-true, not-false}
 use mathlib.Core.Bool.{Bool}
 use mathlib.Core.Path.{sym, ap, ◌∙◌}
 use Prim.Native.Nat.{ℕ}
-use borrow.Author.Rules.{rules}
 use Rattle.master.proofs.tables_good.Goals as goal
 
 pub returns-then-not-is_good : goal.returns-then-not-is_good

@@ -2,7 +2,6 @@ use mathlib.Core.Path.{ap, ◌∙◌}
 use Rattle.hinet.specs.Packing.{word}
 use Rattle.hinet.specs.BootEntries.{booted_told}
 use Rattle.hinet.proofs.BootLaws.{booted_choice}
-use borrow.Author.Rules.{rules}
 use Rattle.hinet.proofs.booting.hinet_boot.Goals as goal
 
 pub returns : goal.returns

@@ -1,6 +1,5 @@
 use Rattle.hinet.specs.Entries.{address_of}
 use Rattle.hinet.specs.FrameEntries.{fields_for}
-use borrow.Author.Rules.{rules}
 use Rattle.hinet.proofs.given.address_of.Goals as goal
 
 pub returns : goal.returns

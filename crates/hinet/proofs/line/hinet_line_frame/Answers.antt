@@ -1,6 +1,5 @@
 use mathlib.Core.Path.{ap, ◌∙◌}
 use Rattle.hinet.specs.Packing.{word}
-use borrow.Author.Rules.{rules}
 use Rattle.hinet.proofs.line.hinet_line_frame.Goals as goal
 
 pub returns : goal.returns

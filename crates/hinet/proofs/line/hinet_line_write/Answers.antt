@@ -2,7 +2,6 @@ use mathlib.Core.Path.{ap, ◌∙◌}
 use Rattle.hinet.specs.Packing.{word}
 use Rattle.hinet.specs.LineEntries.{written_told}
 use Rattle.hinet.proofs.LineLaws.{written_choice}
-use borrow.Author.Rules.{rules}
 use Rattle.hinet.proofs.line.hinet_line_write.Goals as goal
 
 pub returns : goal.returns

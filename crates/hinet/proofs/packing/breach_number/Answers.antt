@@ -1,5 +1,4 @@
 use Rattle.site.specs.Faults.{breach_number}
-use borrow.Author.Rules.{rules}
 use Rattle.hinet.proofs.packing.breach_number.Goals as goal
 
 pub returns-in-Range : goal.returns-in-Range

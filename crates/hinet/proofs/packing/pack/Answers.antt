@@ -2,7 +2,6 @@ use Rattle.hinet.proofs.PackLaws.{flag_byte, flag_small}
 use Rattle.hinet.specs.Packing.{word}
 use Rattle.master.specs.Answers.{told}
 use native.Mathlib.Omega.{arith}
-use borrow.Author.Rules.{rules}
 use Rattle.hinet.proofs.packing.pack.Goals as goal
 
 pub overflow_mul-result-in-LoggedIn-2 : goal.overflow_mul-result-in-LoggedIn-2

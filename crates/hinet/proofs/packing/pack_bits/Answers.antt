@@ -1,6 +1,5 @@
 use Rattle.hinet.specs.Packing.{word}
 use Rattle.hinet.specs.LineEntries.{written_told}
-use borrow.Author.Rules.{rules}
 use Rattle.hinet.proofs.packing.pack_bits.Goals as goal
 
 pub returns-in-Refused : goal.returns-in-Refused

@@ -1,6 +1,5 @@
 use Rattle.hinet.specs.Packing.{word}
 use Rattle.hinet.specs.BootEntries.{booted_told}
-use borrow.Author.Rules.{rules}
 use Rattle.hinet.proofs.packing.pack_booted.Goals as goal
 
 pub returns-in-Refused : goal.returns-in-Refused

@@ -1,6 +1,5 @@
 use Rattle.hinet.specs.Packing.{word}
 use Rattle.hinet.specs.Entries.{checked_told}
-use borrow.Author.Rules.{rules}
 use Rattle.hinet.proofs.packing.pack_checked.Goals as goal
 
 pub returns-in-Good : goal.returns-in-Good

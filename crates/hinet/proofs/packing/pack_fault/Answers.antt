@@ -1,6 +1,5 @@
 use Rattle.site.specs.Faults.{fault_part, fault_row, fault_breach}
 use Rattle.master.specs.Answers.{fault_told}
-use borrow.Author.Rules.{rules}
 use Rattle.hinet.proofs.packing.pack_fault.Goals as goal
 
 pub returns-in-InHeader : goal.returns-in-InHeader

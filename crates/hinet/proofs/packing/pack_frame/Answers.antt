@@ -1,6 +1,5 @@
 use Rattle.hinet.specs.Packing.{word}
 use borrow.Author.Tests.{eq-eqb, ne_eqb}
-use borrow.Author.Rules.{rules}
 use Rattle.hinet.proofs.packing.pack_frame.Goals as goal
 
 pub returns-then-refusal-ne0 : goal.returns-then-refusal-ne0

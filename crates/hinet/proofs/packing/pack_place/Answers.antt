@@ -1,5 +1,4 @@
 use Rattle.hinet.specs.Entries.{located_told}
-use borrow.Author.Rules.{rules}
 use Rattle.hinet.proofs.packing.pack_place.Goals as goal
 
 pub returns-in-Faulty : goal.returns-in-Faulty

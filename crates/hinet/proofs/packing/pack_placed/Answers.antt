@@ -2,7 +2,6 @@ use Rattle.hinet.specs.Packing.{word}
 use Rattle.master.specs.Frames.{place_told}
 use Rattle.master.specs.Answers.{told}
 use borrow.Author.Tests.{eq-eqb, ne_eqb}
-use borrow.Author.Rules.{rules}
 use Rattle.hinet.proofs.packing.pack_placed.Goals as goal
 
 pub returns-then-refusal-ne0 : goal.returns-then-refusal-ne0

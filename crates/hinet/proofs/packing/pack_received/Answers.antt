@@ -1,5 +1,4 @@
 use Rattle.master.specs.Line.{received_told}
-use borrow.Author.Rules.{rules}
 use Rattle.hinet.proofs.packing.pack_received.Goals as goal
 
 pub returns-in-Another : goal.returns-in-Another

@@ -1,6 +1,5 @@
 use Rattle.hinet.specs.Packing.{word}
 use mathlib.Core.Path.{refl}
-use borrow.Author.Rules.{rules}
 use Rattle.hinet.proofs.packing.pack_site.Goals as goal
 
 pub returns : goal.returns

@@ -2,7 +2,6 @@ use Rattle.master.specs.Answers.{turn_told}
 use Rattle.hinet.specs.Packing.{word}
 use Rattle.hinet.proofs.PackLaws.{flag_byte, flag_small}
 use native.Mathlib.Omega.{arith}
-use borrow.Author.Rules.{rules}
 use Rattle.hinet.proofs.packing.pack_turn.Goals as goal
 
 pub overflow_mul-result : goal.overflow_mul-result

@@ -1,6 +1,5 @@
 use Prim.Native.Nat.{ℕ}
 use mathlib.Core.Path.{ap, ◌∙◌}
-use borrow.Author.Rules.{rules}
 use Rattle.hinet.specs.Packing.{word}
 use Rattle.hinet.specs.FrameEntries.{frame_told}
 use Rattle.hinet.proofs.parameters.write_block.Goals as goal

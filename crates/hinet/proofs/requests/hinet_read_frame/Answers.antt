@@ -1,6 +1,5 @@
 use Rattle.hinet.proofs.FrameLaws.{read_refused, read_well, reading_refusal, well_starts}
 use mathlib.Core.Path.{sym, ◌∙◌}
-use borrow.Author.Rules.{rules}
 use Rattle.hinet.proofs.requests.hinet_read_frame.Goals as goal
 
 pub returns-then-refusal-ne0 : goal.returns-then-refusal-ne0

@@ -1,5 +1,4 @@
 use Rattle.hinet.proofs.FrameLaws.{composed}
-use borrow.Author.Rules.{rules}
 use Rattle.hinet.proofs.requests.hinet_write_assign.Goals as goal
 
 pub returns : goal.returns

@@ -1,7 +1,6 @@
 use Rattle.hinet.proofs.FrameLaws.{composed}
 use Rattle.hinet.specs.FrameEntries.{logout_of}
 use mathlib.Core.Path.{◌∙◌}
-use borrow.Author.Rules.{rules}
 use Rattle.hinet.proofs.requests.hinet_write_logout.Goals as goal
 
 pub returns : goal.returns

@@ -1,6 +1,5 @@
 use Rattle.frames.specs.declared.Command.TheVariants.{Read}
 use Rattle.hinet.proofs.FrameLaws.{disk_composed}
-use borrow.Author.Rules.{rules}
 use Rattle.hinet.proofs.requests.hinet_write_read.Goals as goal
 
 pub returns : goal.returns

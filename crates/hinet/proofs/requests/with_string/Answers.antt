@@ -1,6 +1,5 @@
 use Rattle.hinet.specs.FrameEntries.{string_of}
 use Rattle.frames.specs.Requests.{plain}
-use borrow.Author.Rules.{rules}
 use Rattle.hinet.proofs.requests.with_string.Goals as goal
 
 pub returns : goal.returns

@@ -1,5 +1,4 @@
 use Rattle.hinet.proofs.StationLaws.{stepped}
-use borrow.Author.Rules.{rules}
 use Rattle.hinet.proofs.station_end.hinet_station_clear.Goals as goal
 
 pub returns : goal.returns

@@ -2,7 +2,6 @@ use mathlib.Core.Path.{ap, ◌∙◌}
 use Rattle.hinet.specs.Packing.{word}
 use Rattle.hinet.specs.FrameEntries.{frame_told}
 use Rattle.station.specs.declared.Sent.{Sent}
-use borrow.Author.Rules.{rules}
 use Rattle.hinet.proofs.station_end.hinet_station_frame.Goals as goal
 
 pub returns : goal.returns

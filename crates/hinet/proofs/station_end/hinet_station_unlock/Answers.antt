@@ -1,6 +1,5 @@
 use mathlib.Core.Path.{◌∙◌}
 use Rattle.hinet.proofs.StationLaws.{stepped}
-use borrow.Author.Rules.{rules}
 use Rattle.hinet.proofs.station_end.hinet_station_unlock.Goals as goal
 
 pub returns : goal.returns

@@ -3,12 +3,11 @@ use Rattle.master.specs.Answers.{told}
 use Rattle.site.specs.Found.{index_of_name}
 use Rattle.site.specs.Layout.{partitions, partition_row, partition_password}
 use Rattle.rows.specs.Words.{same, zeros}
-use borrow.Author.Tests.{lt-ltb, le-ltb, not-true, not-false}
+use borrow.Author.Tests.{lt-ltb, le-ltb}
 use mathlib.Core.Bool.{true, false, ◌||◌}
 use mathlib.Core.Path.{◌≡◌, sym, ap, ◌∙◌}
 use native.Mathlib.Omega.{arith}
 use Prim.Native.Nat.{ℕ, ◌<◌, ◌≤◌}
-use borrow.Author.Rules.{rules}
 use Rattle.master.proofs.commands.assign.Goals as goal
 
 pub returns-then-partition_count-i : goal.returns-then-partition_count-i

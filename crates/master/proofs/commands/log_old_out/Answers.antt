@@ -1,19 +1,12 @@
-use Rattle.master.specs.Frames.{logout_effect, logouts_below, starts_again, old_logouts}
-use Rattle.master.specs.Tables.{good_tables}
-use Rattle.master.specs.Inner.{Left}
+use Rattle.master.specs.Frames.{logouts_below, old_logouts}
 use Rattle.master.proofs.TableLaws.{records_good, sized, table}
-use Rattle.master.proofs.LogoutLaws.{below_good, zero_out, out_next, on_next}
+use Rattle.master.proofs.LogoutLaws.{zero_out}
 use Rattle.who.specs.Good.{numbers}
-use Rattle.who.specs.Logins.{has_serial}
 use Rattle.rows.specs.Words.{zeros}
 use mathlib.Core.Bool.{true, false}
-use mathlib.Core.List.{List}
-use mathlib.Core.Logic.{⊎_elim}
 use mathlib.Core.Path.{◌≡◌, refl, sym, ◌∙◌}
 use native.Mathlib.Omega.{arith}
-use Prim.Native.Nat.{ℕ, ◌+◌, ◌-◌, ◌≤◌, ◌<◌}
-use borrow.Author.Rules.{rules}
-use Rattle.master.proofs.LogoutLaws.{Walked, walked_good, walked_out, walked_on}
+use Rattle.master.proofs.LogoutLaws.{walked_good, walked_out, walked_on}
 use Rattle.master.proofs.commands.log_old_out.Goals as goal
 use Rattle.master.proofs.commands.log_old_out.Goals.{then-has_serial, else-has_serial}
 
@@ -39,8 +32,9 @@ loop-n-preserved c =
     let some : zeros c.args.serial ≡ false = sym c.is_zero.ensures.answer ∙ c.if-is_zero.false in
     let good = c.requires in
     elim c.if-has_serial.branch [
-      then-has_serial b ↦ rw (b.locks-is, b.records-is) (walked_out good c.loop-n.invariant some c.loop-n-test.true (sym c.has_serial.ensures.answer ∙ b.if-has_serial.true) b.log_out.ensures)
-    | else-has_serial b ↦ rw (b.locks-is, b.records-is) (walked_on good c.loop-n.invariant some c.loop-n-test.true (sym c.has_serial.ensures.answer ∙ b.if-has_serial.false)) ]
+      | then-has_serial b ↦ rw (b.locks-is, b.records-is) (walked_out good c.loop-n.invariant some c.loop-n-test.true (sym c.has_serial.ensures.answer ∙ b.if-has_serial.true) b.log_out.ensures)
+      | else-has_serial b ↦ rw (b.locks-is, b.records-is) (walked_on good c.loop-n.invariant some c.loop-n-test.true (sym c.has_serial.ensures.answer ∙ b.if-has_serial.false))
+    ]
 
 pub shape_of-locks : goal.shape_of-locks
 shape_of-locks c = let good = c.requires in (table _ _ (walked_good good c.loop-n.invariant)).sized ∙ sym (table _ _ good).sized

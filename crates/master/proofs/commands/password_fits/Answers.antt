@@ -1,5 +1,4 @@
 use mathlib.Core.Path.{sym, ◌∙◌}
-use borrow.Author.Rules.{rules}
 use Rattle.master.proofs.commands.password_fits.Goals as goal
 
 pub returns-then-is_zero : goal.returns-then-is_zero

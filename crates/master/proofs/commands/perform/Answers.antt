@@ -4,7 +4,6 @@ use Rattle.master.proofs.LogoutLaws.{old_cleared}
 use Rattle.master.specs.Answers.{told}
 use Rattle.frames.specs.Writing.{code_of}
 use mathlib.Core.Path.{refl}
-use borrow.Author.Rules.{rules}
 use Rattle.master.proofs.commands.perform.Goals as goal
 
 pub log_in-requires : goal.log_in-requires

@@ -2,7 +2,6 @@ use mathlib.Core.Path.{sym}
 use lib.Seq.{length-take-le}
 use native.Mathlib.Omega.{arith}
 use Rattle.master.proofs.LineLaws.{heard_another, heard_served}
-use borrow.Author.Rules.{rules}
 use Rattle.master.proofs.line.hear.Goals as goal
 
 pub returns-then-user-ne0 : goal.returns-then-user-ne0

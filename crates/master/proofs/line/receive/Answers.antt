@@ -3,7 +3,6 @@ use lib.ListN.{replicate}
 use Rattle.master.specs.Answers.{told}
 use Rattle.master.specs.Line.{received_told}
 use Rattle.master.proofs.LineLaws.{line_refused, line_heard}
-use borrow.Author.Rules.{rules}
 use Rattle.master.proofs.line.receive.Goals as goal
 
 pub returns-in-Refused : goal.returns-in-Refused

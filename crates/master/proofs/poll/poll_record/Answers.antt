@@ -1,7 +1,6 @@
 use Rattle.master.proofs.RowPollLaws.{word_seated, steps_refused, steps_turned}
 use native.Mathlib.Omega.{arith}
 use mathlib.Core.Path.{sym, ◌∙◌}
-use borrow.Author.Rules.{rules}
 use Rattle.master.proofs.poll.poll_record.Goals as goal
 
 pub returns-then-refusal-ne0 : goal.returns-then-refusal-ne0

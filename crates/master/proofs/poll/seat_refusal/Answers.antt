@@ -4,7 +4,6 @@ use Rattle.master.proofs.RefusalLaws.{unknown_is}
 use Rattle.rows.specs.Numbers.{bit_at}
 use borrow.Author.Tests.{eq-eqb, ne_eqb}
 use mathlib.Core.Path.{sym, ◌∙◌}
-use borrow.Author.Rules.{rules}
 use Rattle.master.proofs.poll.seat_refusal.Goals as goal
 
 pub returns-then-is_unknown : goal.returns-then-is_unknown

@@ -1,6 +1,5 @@
 use Rattle.master.proofs.RowPollLaws.{steps_12, steps_out, steps_on}
 use mathlib.Core.Path.{sym, ◌∙◌}
-use borrow.Author.Rules.{rules}
 use Rattle.master.proofs.poll.turn_record.Goals as goal
 
 pub returns-then-is_early : goal.returns-then-is_early

@@ -1,6 +1,4 @@
-use borrow.Author.Tests.{not-true, not-false}
 use mathlib.Core.Path.{sym, ◌∙◌}
-use borrow.Author.Rules.{rules}
 use Rattle.master.specs.Polls.{turn_refusal}
 use Rattle.master.specs.Inner.{seat_refusal}
 use Rattle.master.proofs.poll.word_refusal.Goals as goal

@@ -1,6 +1,5 @@
 use native.Mathlib.Omega.{arith}
 use mathlib.Core.Path.{sym, ap}
-use borrow.Author.Rules.{rules}
 use Rattle.master.specs.Inner.{is_turn, written_back}
 use Rattle.master.proofs.poll.write_back.Goals as goal
 

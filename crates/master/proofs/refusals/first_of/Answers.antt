@@ -4,7 +4,6 @@ use Rattle.who.specs.Logins.{logged_in}
 use borrow.Author.Tests.{eq-eqb, ne_eqb}
 use mathlib.Core.Path.{sym, ◌∙◌}
 use native.Mathlib.Omega.{arith}
-use borrow.Author.Rules.{rules}
 use Rattle.master.proofs.refusals.first_of.Goals as goal
 
 pub returns-then-read-eq1 : goal.returns-then-read-eq1

@@ -5,7 +5,6 @@ use Rattle.frames.specs.Table.{frame_table, length_in, frame_length}
 use borrow.Author.Tests.{eq-eqb, ne_eqb}
 use mathlib.Core.Path.{sym, ap, ◌∙◌}
 use native.Mathlib.Omega.{arith}
-use borrow.Author.Rules.{rules}
 use Rattle.master.proofs.refusals.src_differs.Goals as goal
 
 pub bounds-frame-0 : goal.bounds-frame-0
