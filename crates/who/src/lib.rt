@@ -142,6 +142,7 @@ pub fn lowest_number(records: &[u8]) -> usize
 }
 
 // Number n, from 1 on, is logged in with this serial.
+#[tactic(auto, unfolding(crate::specs::Logins::has_serial))]
 pub fn has_serial(records: &[u8], n: usize, serial: [u8; 4]) -> bool
     ensures { Gives (has_serial records.now serial n) result }
 {
@@ -243,6 +244,7 @@ pub struct Turn {
 }
 
 // A station with these misses and slow turns is due in its next turn.
+#[tactic(auto, unfolding(crate::specs::Turns::is_due))]
 pub fn is_due(misses: u16, slow: u8) -> bool
     ensures { Gives (is_due misses slow) result }
 {

@@ -2,7 +2,7 @@ use Rattle.who.specs.Logins.{record_count, logged_in, has_serial}
 use Rattle.who.specs.Records.{station_of}
 use Rattle.rows.proofs.BoolLaws.{and_left}
 use Rattle.rows.proofs.RowLaws.{part_part}
-use borrow.Author.Tests.{le-leb, lt-leb, ltb-true}
+use borrow.Author.Tests.{le-leb, ltb-true}
 use lib.Dec.{ltb, eqb, lit≤}
 use lib.ListN.{length, get_or}
 use mathlib.Core.Bool.{true, and-false}
@@ -31,10 +31,11 @@ pub returns-then-is_in : goal.returns-then-is_in
 unfolding has_serial station_of
 returns-then-is_in c =
     let a = c.args in
+    let some : 1 ≤ a.n = omega arith in
     record {
       answer = c.is_same.ensures.answer
           ∙ rw (
-            le-leb 1 a.n c.if-n-ge1.true,
+            le-leb 1 a.n some,
             sym c.is_in.ensures.answer ∙ c.if-is_in.true,
             c.part.ensures,
             part_part a.records.now (18 * a.n) 18 12 4 (lit≤ tt),
@@ -44,7 +45,3 @@ returns-then-is_in c =
 pub returns-else-is_in : goal.returns-else-is_in
 unfolding has_serial
 returns-else-is_in c = record { answer = rw (sym c.is_in.ensures.answer ∙ c.if-is_in.false, and-false) }
-
-pub returns-else-n-ge1 : goal.returns-else-n-ge1
-unfolding has_serial
-returns-else-n-ge1 c = record { answer = rw (lt-leb 1 _ c.if-n-ge1.false) }

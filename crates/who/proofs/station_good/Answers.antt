@@ -3,16 +3,17 @@ use Rattle.who.proofs.RecordLaws.{plain_counts}
 use Rattle.rows.proofs.BoolLaws.{and_fails}
 use borrow.Author.Tests.{eq-eqb, ne_eqb}
 use mathlib.Core.Bool.{and-true}
-use mathlib.Core.Path.{refl, sym}
+use mathlib.Core.Path.{◌≡◌, refl, sym}
+use native.Mathlib.Omega.{arith}
 use Rattle.who.proofs.station_good.Goals as goal
 
 pub returns-then-s : goal.returns-then-s
 unfolding good_station good_counts plain
-returns-then-s c = rw (eq-eqb _ _ c.if-n-eq0.true, c.if-s.true, plain_counts) c.is_plain.ensures
+returns-then-s c = let first : c.args.n ≡ 0 = omega arith in rw (eq-eqb _ _ first, c.if-s.true, plain_counts) c.is_plain.ensures
 
 pub returns-else-s : goal.returns-else-s
 unfolding good_station
-returns-else-s c = rw (eq-eqb _ _ c.if-n-eq0.true, c.if-s.false) (sym (and_fails (good_counts c.args.s.misses c.args.s.slow) _ refl))
+returns-else-s c = let first : c.args.n ≡ 0 = omega arith in rw (eq-eqb _ _ first, c.if-s.false) (sym (and_fails (good_counts c.args.s.misses c.args.s.slow) _ refl))
 
 pub returns-then-s-2 : goal.returns-then-s-2
 unfolding good_station

@@ -1,5 +1,5 @@
-use Rattle.master.specs.Polls.{with_counts}
 use mathlib.Core.Path.{refl}
+use Rattle.master.specs.Polls.{with_counts}
 use Rattle.master.proofs.poll.after_turn.Goals as goal
 
 pub returns : goal.returns
