@@ -18,44 +18,46 @@ fn digit(n: u64) -> u8 {
 }
 
 // The first n bytes of an answer.
-fn print_bytes(word: u64, n: usize) {
+fn print_bytes(rt: &impl Print, word: u64, n: usize) {
     let mut rest = word / 0x1_0000;
     let mut i: usize = 0;
     while i < n {
         let text = [b' ', digit(rest / 16), digit(rest)];
-        io::write_all(1, &text);
+        let _ = rt.write_all(&text);
         rest = rest / 256;
         i += 1;
     }
 }
 
-fn print(what: &[u8], word: u64, n: usize) {
-    io::write_all(1, what);
-    io::print_decimal(1, word % 256);
-    print_bytes(word, n);
-    io::write_all(1, b"\n");
+// What it is an example of, the refusal, and the first n bytes of the answer. What cannot be written is left out.
+fn print(rt: &impl Print, what: &[u8], word: u64, n: usize) {
+    let _ = rt.write_all(what);
+    let _ = rt.print(word % 256);
+    print_bytes(rt, word, n);
+    let _ = rt.write_all(b"\n");
 }
 
-fn place(what: &[u8], track: u32, sector: u32) {
-    print(what, hinet::hinet_place(1, 0, track, sector, &SITE), 0);
+fn place(rt: &impl Print, what: &[u8], track: u32, sector: u32) {
+    print(rt, what, hinet::hinet_place(1, 0, track, sector, &SITE), 0);
 }
 
 // An assign by user 0, over fresh tables.
-fn assign(what: &[u8], site: &[u8]) {
+fn assign(rt: &impl Print, what: &[u8], site: &[u8]) {
     let mut locks = [0u8; 1024];
     let mut stations = [0u8; 1152];
     hinet::hinet_fresh(&mut locks, &mut stations);
     print(
+        rt,
         what,
         hinet::hinet_frame(0, &ASSIGN, site, &mut locks, &mut stations),
         4,
     );
 }
 
-fn main() {
-    place(b"track 16: ", 16, 1);
-    place(b"sector 0: ", 0, 0);
-    place(b"sector 129: ", 0, 129);
-    assign(b"assign with six zero password bytes: ", &SITE);
-    assign(b"assign with the empty site file: ", &EMPTY);
+fn main(rt: HostRuntime) {
+    place(&rt, b"track 16: ", 16, 1);
+    place(&rt, b"sector 0: ", 0, 0);
+    place(&rt, b"sector 129: ", 0, 129);
+    assign(&rt, b"assign with six zero password bytes: ", &SITE);
+    assign(&rt, b"assign with the empty site file: ", &EMPTY);
 }

@@ -1,1 +1,1 @@
-pub mod PageLaws
+mod ReadingLaws

@@ -5,7 +5,9 @@
 pub mod frame;
 
 ghost use Rattle.std.specs.Prelude.{◌≤◌, length};
-ghost use Rattle.io.specs.Counts.{IsPrefixLen};
+ghost use Rattle.pages.specs.Counts.{IsPrefixLen};
+
+use itoa::Buffer;
 
 // What came of it: where the words about it end, and whether it is good.
 #[derive(Clone, Copy)]
@@ -39,9 +41,8 @@ pub fn append_number(line: &mut [u8], at: usize, n: u64) -> usize
     requires { at ≤ length line.old }
     ensures { IsPrefixLen result line.new }
 {
-    let mut digits = [0u8; 20];
-    let k = io::decimal(n, &mut digits);
-    append(line, at, &digits[..k])
+    let mut digits = Buffer::new();
+    append(line, at, digits.format(n).as_bytes())
 }
 
 // Words and a number.
@@ -86,9 +87,8 @@ pub fn append_column(line: &mut [u8], at: usize, n: u64) -> usize
     requires { at ≤ length line.old }
     ensures { IsPrefixLen result line.new }
 {
-    let mut digits = [0u8; 20];
-    let k = io::decimal(n, &mut digits);
-    append_right(line, at, &digits[..k])
+    let mut digits = Buffer::new();
+    append_right(line, at, digits.format(n).as_bytes())
 }
 
 // The last hexadecimal digit of a byte.

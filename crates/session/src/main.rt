@@ -6,10 +6,12 @@
 mod block;
 
 ghost use Rattle.std.specs.Prelude.{◌≡◌, true, ◌+◌, ◌*◌, ◌^◌, ◌≤◌, ◌<◌, length};
-ghost use Rattle.io.specs.Counts.{IsPrefixLen};
+ghost use Rattle.files.specs.Counts.{IsPrefixLen};
 ghost use Rattle.session.specs.Session.{between, Takes};
 
-use libc::{STDIN_FILENO, STDOUT_FILENO};
+use files::Errors;
+use std::io::Read;
+use std::rt::Files;
 
 // A proved loop has to end, and nothing says that an input does. No run takes so many blocks.
 const TURNS: u64 = 1125899906842624;
@@ -23,19 +25,21 @@ struct Turn {
 }
 
 // Writes the text to standard output, and answers whether it could. Where not, a line on standard error says why.
-fn say(text: &[u8]) -> bool {
-    let written = io::write_all(STDOUT_FILENO, text);
-    if !written {
-        os::fail(b"session: standard output");
+fn say<R: Print + Errors>(rt: &R, text: &[u8]) -> bool {
+    match rt.write_all(text) {
+        Ok(()) => true,
+        Err(error) => {
+            files::tell_error(rt, b"session: standard output", &error);
+            false
+        }
     }
-    written
 }
 
 // Reads site.bin and answers its length, or 0, which no good file has, where it is missing or cannot be read.
-fn read_site(file: &mut [u8]) -> usize
+fn read_site<R: Files + Errors>(rt: &R, file: &mut [u8]) -> usize
     ensures { IsPrefixLen result file.new }
 {
-    let reach = files::read_file(b"site.bin", b"session: site.bin", file);
+    let reach = files::read_file(rt, b"site.bin", b"session: site.bin", file);
     if reach.failed {
         return 0;
     }
@@ -43,14 +47,16 @@ fn read_site(file: &mut [u8]) -> usize
 }
 
 // Nothing more was read. Where the input has ended, what is kept of it is a record cut short.
-fn end_input(kept: usize, failed: bool) {
+fn end_input<R: Print + Errors>(rt: &R, kept: usize, failed: bool) {
     if kept != 0 && !failed {
-        say(b"cut\n");
+        say(rt, b"cut\n");
     }
 }
 
 // One block: reads, plays what is whole, writes the lines and keeps the rest.
-fn take_turn(
+fn take_turn<R: Print + Errors, I: Read>(
+    rt: &R,
+    reader: &mut I,
     site: &[u8],
     kept: usize,
     index: u64,
@@ -63,10 +69,10 @@ fn take_turn(
     ensures kept_bound { (result.kept ≤ 256) × (result.index ≤ index + length input.old) }
     ensures takes { result.more ≡ true → Takes site.now (between input.old kept index locks.old records.old) (between input.new result.kept result.index locks.new records.new) }
 {
-    let reach = files::read_more(STDIN_FILENO, b"session: standard input", input, kept);
+    let reach = files::read_more(rt, reader, b"session: standard input", input, kept);
     let end = reach.end;
     if end == kept {
-        end_input(kept, reach.failed);
+        end_input(rt, kept, reach.failed);
         return Turn {
             kept,
             index,
@@ -76,7 +82,7 @@ fn take_turn(
     let played = block::play(&input[..end], index, site, locks, records, output);
     let at = played.at;
     let used = played.used;
-    let more = say(&output[..used]);
+    let more = say(rt, &output[..used]);
     let rest = end - at;
     rows::slide(input, at, 0, rest);
     Turn {
@@ -84,6 +90,13 @@ fn take_turn(
         index: played.index,
         more,
     }
+}
+
+// Room for a block.
+fn room_for_input() -> [u8; 4096]
+    ensures { 4096 ≡ length result }
+{
+    [0; 4096]
 }
 
 // Room for the lines of a block of 4,096 bytes, 48 for each: a record has two bytes or more, a line at most 87.
@@ -94,10 +107,11 @@ fn room_for_lines() -> [u8; 196608]
 }
 
 // Plays the records of standard input, from fresh tables on.
-fn play_records(site: &[u8]) {
+fn play_records<R: Input + Print + Errors>(rt: &R, site: &[u8]) {
+    let mut reader = rt.reader();
     let mut locks = [0u8; locks::BYTES];
     let mut records = [0u8; who::BYTES];
-    let mut input = io::buffer();
+    let mut input = room_for_input();
     let mut output = room_for_lines();
     let mut kept: usize = 0;
     let mut index: u64 = 0;
@@ -105,6 +119,8 @@ fn play_records(site: &[u8]) {
     master::fresh(&mut locks, &mut records);
     while turns < TURNS {
         let turn = take_turn(
+            rt,
+            &mut reader,
             site,
             kept,
             index,
@@ -122,14 +138,14 @@ fn play_records(site: &[u8]) {
     }
 }
 
-fn main() {
+fn main(rt: HostRuntime) {
     let mut file = [0u8; site::ROOM];
-    let n = read_site(&mut file);
+    let n = read_site(&rt, &mut file);
     if !site::is_good(&file[..n]) {
-        say(b"site 10\n");
+        say(&rt, b"site 10\n");
         return;
     }
-    if say(b"rec num ref answer\n") {
-        play_records(&file[..n]);
+    if say(&rt, b"rec num ref answer\n") {
+        play_records(&rt, &file[..n]);
     }
 }

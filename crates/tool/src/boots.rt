@@ -1,11 +1,12 @@
 // The command boot: what a login is given to load, by the tables in a folder. What that is, the crate `boot` alone says.
 ghost use Rattle.std.specs.Prelude.{◌≤◌, ◌<◌};
-ghost use Rattle.io.specs.Counts.{IsPrefixLen};
+ghost use Rattle.pages.specs.Counts.{IsPrefixLen};
 
-use crate::{FAILED, LINE, NAME, misused, name_file, refuse_name, say, status_of};
+use crate::{FAILED, LINE, NAME, argument, misused, name_file, refuse_name, say, status_of};
 use boot::Booted;
-use files::Reach;
+use files::{Errors, Reach};
 use pages::{Told, append};
+use std::rt::{Env, Files};
 
 // Room for each table at its limit and a byte more, by which one that is too long is known.
 const MACHINES: usize = 1537;
@@ -21,7 +22,13 @@ const SYSTEMS: usize = 12289;
 const DIRECTORY: usize = 3073;
 
 // Reads the table of this name. It has failed too where a table before it has.
-fn read_table(folder: &[u8], name: &[u8], table: &mut [u8], failed: bool) -> Reach
+fn read_table<R: Files + Errors>(
+    rt: &R,
+    folder: &[u8],
+    name: &[u8],
+    table: &mut [u8],
+    failed: bool,
+) -> Reach
     ensures { IsPrefixLen result.end table.new }
 {
     let mut path = [0u8; LINE];
@@ -30,7 +37,7 @@ fn read_table(folder: &[u8], name: &[u8], table: &mut [u8], failed: bool) -> Rea
     let c = append(&mut path, b, name);
     let mut what = [0u8; LINE];
     let n = name_file(&mut what, &path[..c]);
-    let reach = files::read_file(&path[..c], &what[..n], table);
+    let reach = files::read_file(rt, &path[..c], &what[..n], table);
     Reach {
         end: reach.end,
         failed: failed | reach.failed,
@@ -75,7 +82,8 @@ fn append_answer(
 }
 
 // Reads the other three tables of the folder, and prints what all six give a login.
-fn print_answer(
+fn print_answer<R: Files + Print + Errors>(
+    rt: &R,
     folder: &[u8],
     serial: &[u8; 4],
     name: &[u8; 8],
@@ -88,9 +96,9 @@ fn print_answer(
     let mut configurations = [0u8; CONFIGURATIONS];
     let mut systems = [0u8; SYSTEMS];
     let mut directory = [0u8; DIRECTORY];
-    let c = read_table(folder, b"configurations", &mut configurations, failed);
-    let s = read_table(folder, b"systems", &mut systems, c.failed);
-    let d = read_table(folder, b"directory", &mut directory, s.failed);
+    let c = read_table(rt, folder, b"configurations", &mut configurations, failed);
+    let s = read_table(rt, folder, b"systems", &mut systems, c.failed);
+    let d = read_table(rt, folder, b"directory", &mut directory, s.failed);
     if d.failed {
         return FAILED;
     }
@@ -108,18 +116,25 @@ fn print_answer(
         &directory[..d.end],
     );
     let end = told.end;
-    say(&page[..end], status_of(told.good)).status
+    say(rt, &page[..end], status_of(told.good)).status
 }
 
 // Reads three tables of the folder and goes on to the others, even where one has failed, so that each that does is told.
-fn answer(folder: &[u8], serial: &[u8; 4], name: &[u8; 8], password: &[u8; 6]) -> u8 {
+fn answer<R: Files + Print + Errors>(
+    rt: &R,
+    folder: &[u8],
+    serial: &[u8; 4],
+    name: &[u8; 8],
+    password: &[u8; 6],
+) -> u8 {
     let mut machines = [0u8; MACHINES];
     let mut products = [0u8; PRODUCTS];
     let mut users = [0u8; USERS];
-    let m = read_table(folder, b"machines", &mut machines, false);
-    let p = read_table(folder, b"products", &mut products, m.failed);
-    let u = read_table(folder, b"users", &mut users, p.failed);
+    let m = read_table(rt, folder, b"machines", &mut machines, false);
+    let p = read_table(rt, folder, b"products", &mut products, m.failed);
+    let u = read_table(rt, folder, b"users", &mut users, p.failed);
     print_answer(
+        rt,
         folder,
         serial,
         name,
@@ -132,38 +147,35 @@ fn answer(folder: &[u8], serial: &[u8; 4], name: &[u8; 8], password: &[u8; 6]) -
 }
 
 // Takes SERIAL, NAME and PASSWORD from the last three words.
-fn log_in(folder: &[u8], count: usize) -> u8
+fn log_in<R: Env + Files + Print + Errors>(rt: &R, folder: &[u8], count: usize) -> u8
     requires { 3 ≤ count }
 {
     let mut text = [0u8; 8];
-    let n = os::arg(count - 3, &mut text);
+    let n = argument(rt, count - 3, &mut text);
     if pages::bytes_of(&mut text, n) != 4 {
-        return misused(b"boot: SERIAL is eight hex digits", b"");
+        return misused(rt, b"boot: SERIAL is eight hex digits", b"");
     }
     let mut name = [0u8; 8];
-    os::arg(count - 2, &mut name);
-    if os::errno() != 0 {
-        return misused(b"boot: NAME has more than 8 characters", b"");
+    if rt.arg(count - 2, &mut name).is_err() {
+        return misused(rt, b"boot: NAME has more than 8 characters", b"");
     }
     let mut password = [0u8; 6];
-    os::arg(count - 1, &mut password);
-    if os::errno() != 0 {
-        return misused(b"boot: PASSWORD has more than 6 characters", b"");
+    if rt.arg(count - 1, &mut password).is_err() {
+        return misused(rt, b"boot: PASSWORD has more than 6 characters", b"");
     }
-    answer(folder, &rows::four_of(&text, 0), &name, &password)
+    answer(rt, folder, &rows::four_of(&text, 0), &name, &password)
 }
 
 // The command, which argument i is: what follows it is a folder, a serial number, a name and a password.
-pub fn run(i: usize, count: usize) -> u8
+pub fn run<R: Env + Files + Print + Errors>(rt: &R, i: usize, count: usize) -> u8
     requires { i < count }
 {
     if count - i != 5 {
-        return misused(b"boot: FOLDER SERIAL NAME PASSWORD", b"");
+        return misused(rt, b"boot: FOLDER SERIAL NAME PASSWORD", b"");
     }
     let mut folder = [0u8; NAME];
-    let n = os::arg(i + 1, &mut folder);
-    if os::errno() != 0 {
-        return refuse_name(&folder).status;
+    match rt.arg(i + 1, &mut folder) {
+        Ok(n) => log_in(rt, &folder[..n], count),
+        Err(_) => refuse_name(rt, &folder).status,
     }
-    log_in(&folder[..n], count)
 }
