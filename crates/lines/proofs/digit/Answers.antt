@@ -1,6 +1,5 @@
 use borrow.Author.Tests.{lt-ltb, le-ltb}
 use Rattle.lines.specs.Line.{digit}
-use borrow.Author.Rules.{rules}
 use Rattle.lines.proofs.digit.Goals as goal
 
 pub returns-then-d-lt10 : goal.returns-then-d-lt10

@@ -1,5 +1,5 @@
 use native.Mathlib.Omega.{arith}
-use Rattle.lines.proofs.DigitLaws.{Spelling, spelling_begins, spelling_room, spelling_on, spelling_ends}
+use Rattle.lines.proofs.DigitLaws.{spelling_begins, spelling_room, spelling_on, spelling_ends}
 use Rattle.lines.proofs.digits_of.Goals as goal
 
 pub loop-rest-init : goal.loop-rest-init

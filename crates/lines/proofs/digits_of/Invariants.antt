@@ -1,5 +1,4 @@
-use native.Mathlib.Omega.{arith}
-use Rattle.lines.proofs.DigitLaws.{Spelling, spelling_begins, spelling_room, spelling_on, spelling_ends}
+use Rattle.lines.proofs.DigitLaws.{Spelling}
 use Rattle.lines.proofs.digits_of.Given as goal
 
 abbrev pub invariant-loop-rest : goal.invariant-loop-rest

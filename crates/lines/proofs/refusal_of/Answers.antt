@@ -1,5 +1,4 @@
 use Rattle.master.specs.Answers.{refusal_number, fault_told, told}
-use borrow.Author.Rules.{rules}
 use Rattle.lines.proofs.refusal_of.Goals as goal
 
 pub returns-in-Refused : goal.returns-in-Refused

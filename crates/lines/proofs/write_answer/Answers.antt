@@ -1,6 +1,5 @@
 use Rattle.master.specs.Answers.{fault_told, told}
 use Rattle.lines.specs.Line.{answer_text}
-use borrow.Author.Rules.{rules}
 use Rattle.lines.proofs.write_answer.Goals as goal
 
 pub returns-in-Refused : goal.returns-in-Refused

@@ -2,7 +2,6 @@ use Rattle.lines.specs.Line.{columns}
 use Rattle.lines.proofs.LineLaws.{number_long, polled_long}
 use native.Mathlib.Omega.{arith}
 use Rattle.lines.proofs.WriteLaws.{writes_then}
-use borrow.Author.Rules.{rules}
 use Rattle.lines.proofs.write_columns.Goals as goal
 
 pub write_polled-b-requires : goal.write_polled-b-requires

@@ -1,7 +1,6 @@
 use mathlib.Core.Path.{refl}
 use Rattle.lines.proofs.WriteLaws.{writes_put}
 use Rattle.lines.specs.Line.{hex_byte}
-use borrow.Author.Rules.{rules}
 use Rattle.lines.proofs.write_hex.Goals as goal
 
 pub returns : goal.returns

@@ -3,7 +3,6 @@ use Rattle.master.specs.Answers.{told}
 use Rattle.lines.specs.Line.{line_text}
 use Rattle.lines.proofs.WriteLaws.{writes_then}
 use Rattle.lines.proofs.LineLaws.{answer_long, columns_long}
-use borrow.Author.Rules.{rules}
 use Rattle.lines.proofs.write_line.Goals as goal
 
 pub write_answer-b-requires : goal.write_answer-b-requires

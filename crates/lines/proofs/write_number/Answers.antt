@@ -2,7 +2,6 @@ use native.Mathlib.Omega.{arith}
 use Rattle.lines.proofs.DigitLaws.{decimal_long}
 use Rattle.lines.proofs.WriteLaws.{writes_then}
 use Rattle.lines.specs.Line.{column}
-use borrow.Author.Rules.{rules}
 use Rattle.lines.proofs.write_number.Goals as goal
 
 pub write_byte-requires : goal.write_byte-requires

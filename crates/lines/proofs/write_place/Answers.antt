@@ -1,7 +1,6 @@
 use native.Mathlib.Omega.{arith}
 use Rattle.lines.proofs.DigitLaws.{decimal_long}
 use Rattle.lines.proofs.WriteLaws.{writes_then}
-use borrow.Author.Rules.{rules}
 use Rattle.lines.proofs.write_place.Goals as goal
 
 pub write_byte-b-requires : goal.write_byte-b-requires
