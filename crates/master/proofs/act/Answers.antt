@@ -65,7 +65,7 @@ perform-requires c = let a = c.args in
 
 pub returns : goal.returns
 returns c = let a = c.args in
-    let z : frame_tests a.number a.frame.now a.records.now 0 ≡ 0 = sym c.first_of-refusal.ensures ∙ c.if-refusal-ne0.false in
+    let z = sym c.first_of-refusal.ensures ∙ c.if-refusal-ne0.false in
     let well = (passed a.number a.frame.now a.records.now z).reads in
     let read = request_of a.frame.now c.read-reading.result c.read-reading.ensures.answer well in
     serves_done a.number a.frame.now a.site.now a.locks.now a.records.now c.requires.records_value c.requires.site_value z _ _ _
