@@ -1,9 +1,8 @@
 // 01's checked examples that are not marked: each is run and prints a line, the refusal and the bytes of the answer. The
 // marked ones are proved (specs/Marked.antt).
-
-// One partition: ARCHIVE1, password SECRET, volume 1, partition 0, size 1, control 5, first sector 2048.
 #![tactic(auto)]
 
+// One partition: ARCHIVE1, password SECRET, volume 1, partition 0, size 1, control 5, first sector 2048.
 const SITE: [u8; 32] = *b"\0\0\x08\0\x01\0\x08\0ARCHIVE1SECRET\x01\0\x01\x05\0\x08\0\0\0\0";
 
 const EMPTY: [u8; 8] = *b"\0\0\x08\0\0\0\x08\0";

@@ -1,5 +1,6 @@
-// The entries for the box's C program: numbers and byte slices in, one word out (specs/Packing.antt). Each is thin over
-// the proved library and takes any input. A number that is too large for what it means is refused and never cut to a byte.
+// The entries for the box's C program, which `hinet_c` exports: numbers and byte slices in, one word out (specs/Packing.antt).
+// Each is thin over the proved library and takes any input. A number that is too large for what it means is refused and
+// never cut to a byte.
 // Here stand the master's; those that write and read one frame stand in requests.rt, the station's in station_end.rt, those
 // that write disk parameters in parameters.rt, those of the line in line.rt, the one that chooses a system in booting.rt.
 #![tactic(auto)]
