@@ -72,22 +72,19 @@
  * Stack
  *   Bytes that an entry needs on its deepest path, measured by bench/stack
  *   (memcpy and the like not counted):
- *     hinet_poll                                                1680
- *     hinet_line_frame                                           960
- *     hinet_line_read                                            880
- *     hinet_boot                                                 632
- *     hinet_frame                                                616
- *     hinet_line_write                                           576
- *     hinet_place                                                344
- *     hinet_station_frame, _unlock, _reply                       336
- *     hinet_check_tables, hinet_due, hinet_station_lock          304
- *     hinet_check_site                                           296
- *     hinet_station_clear                                        272
- *     hinet_write_...                                            120
- *     hinet_cpm_parameters, hinet_msdos_parameters               116
- *     hinet_read_frame                                           112
- *     hinet_fresh                                                 40
- *     hinet_station_fresh                                         24
+ *     hinet_poll                                                1616
+ *     hinet_line_frame                                           968
+ *     hinet_line_read                                            872
+ *     hinet_boot                                                 648
+ *     hinet_line_write                                           616
+ *     hinet_frame                                                528
+ *     hinet_place                                                336
+ *     hinet_station_frame, _unlock, _reply                       320
+ *     hinet_check_site, hinet_due, hinet_station_lock            288
+ *     hinet_check_tables, hinet_station_clear                    256
+ *     hinet_cpm_parameters, hinet_msdos_parameters               132
+ *     hinet_write_..., hinet_read_frame                          120
+ *     hinet_fresh, hinet_station_fresh                            24
  */
 #ifndef HINET_H
 #define HINET_H

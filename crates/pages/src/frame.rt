@@ -2,7 +2,7 @@
 // walked and told. A byte is a row: its bits in the order in which they go on the line, a zero that was put in between
 // parentheses, and behind a semicolon what it is.
 ghost use Rattle.std.specs.Prelude.{◌+◌, ◌*◌, ◌≤◌, ◌<◌, length};
-ghost use Rattle.pages.specs.Counts.{IsPrefixLen};
+ghost use Rattle.files.specs.Counts.{IsPrefixLen};
 
 use crate::{Told, append, append_both, append_bytes, append_row, append_shown, bytes_of, digit};
 use framing::{Reading, Written};

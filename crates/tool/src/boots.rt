@@ -1,6 +1,6 @@
 // The command boot: what a login is given to load, by the tables in a folder. What that is, the crate `boot` alone says.
 ghost use Rattle.std.specs.Prelude.{◌≤◌, ◌<◌};
-ghost use Rattle.pages.specs.Counts.{IsPrefixLen};
+ghost use Rattle.files.specs.Counts.{IsPrefixLen};
 
 use crate::{FAILED, LINE, NAME, argument, misused, name_file, refuse_name, say, status_of};
 use boot::Booted;

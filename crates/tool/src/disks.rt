@@ -1,7 +1,7 @@
 // The disk parameters as a person types them in: for each system a line for each field of its block, in the block's order,
 // with a column for each size code, and then the blocks in bytes. All numbers are those of `params`.
 ghost use Rattle.std.specs.Prelude.{◌≤◌, ◌<◌, length};
-ghost use Rattle.pages.specs.Counts.{IsPrefixLen};
+ghost use Rattle.files.specs.Counts.{IsPrefixLen};
 
 use pages::{append, append_bits, append_both, append_bytes, append_column, append_row};
 use params::{CpmBlock, CpmParameters, MsdosBlock, MsdosParameters, System};

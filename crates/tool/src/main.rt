@@ -7,7 +7,7 @@ mod disks;
 mod words;
 
 ghost use Rattle.std.specs.Prelude.{◌<◌};
-ghost use Rattle.pages.specs.Counts.{IsPrefixLen};
+ghost use Rattle.files.specs.Counts.{IsPrefixLen};
 
 use disks::Sizes;
 use files::Errors;

@@ -1,7 +1,7 @@
 // What is said of a site file behind its name. Whether it is good, and what its first fault is, `site::check` alone
 // says; here the fault is put into words, with the fields that it is about.
 ghost use Rattle.std.specs.Prelude.{◌≡◌, ◌+◌, ◌≤◌, ◌<◌, length};
-ghost use Rattle.pages.specs.Counts.{IsPrefixLen};
+ghost use Rattle.files.specs.Counts.{IsPrefixLen};
 ghost use Rattle.site.specs.declared.Checked.TheVariants.{Faulty};
 ghost use Rattle.site.specs.Faults.{checked};
 
