@@ -4,11 +4,11 @@
 
 pub mod marks;
 
-ghost use Rattle.std.specs.Prelude.{◌≡◌, ◌+◌, ◌*◌, ◌≤◌, ◌<◌, length};
+ghost use Rattle.std.specs.Prelude.{◌≡◌, ℕ, ◌+◌, ◌*◌, ◌≤◌, ◌<◌, length};
 ghost use Rattle.rows.specs.Words.{all, first, same, zero_at, zeros};
 ghost use Rattle.rows.specs.Rows.{part as part_of, put as put_in, over, begins, copies};
 ghost use Rattle.rows.specs.Numbers.{low_first, bit_at};
-ghost use Rattle.rows.specs.Outcomes.{Gives};
+ghost use Rattle.rows.specs.Outcomes.{Gives, Finds};
 
 // The n bytes of s that begin at `at`.
 pub fn part(s: &[u8], at: usize, n: usize) -> &[u8]
@@ -32,10 +32,8 @@ pub fn slide(s: &mut [u8], from: usize, to: usize, n: usize)
     requires { (to ≤ from) × (from + n ≤ length s.old) }
     ensures { s.new ≡ put_in s.old to (part_of s.old from n) }
 {
-    let mut k: usize = 0;
-    while k < n {
+    for k in 0..n {
         s[to + k] = s[from + k];
-        k += 1;
     }
 }
 
@@ -44,10 +42,8 @@ pub fn fill(s: &mut [u8], n: usize, r: &[u8])
     requires { length r.now * n ≤ length s.old }
     ensures { s.new ≡ over (copies n r.now) s.old }
 {
-    let mut i: usize = 0;
-    while i < n {
+    for i in 0..n {
         put(s, r.len() * i, r);
-        i += 1;
     }
 }
 
@@ -64,46 +60,66 @@ pub fn index_of(b: u8) -> usize
     b as usize
 }
 
-// The number in two bytes, low byte first.
-pub fn two_at(s: &[u8], at: usize) -> u16
-    requires { at + 2 ≤ length s.now }
-    ensures { result ≡ low_first (part_of s.now at 2) }
+// The N bytes of s that begin at `at`, by value.
+pub fn array_at<const N: usize>(s: &[u8], at: usize) -> [u8; N]
+    requires { at + N ≤ length s.now }
+    ensures { result ≡ part_of s.now at N }
 {
-    let low = wide(s[at]);
-    let high = wide(s[at + 1]);
-    (low + 256 * high) as u16
+    let mut r = [0u8; N];
+    r.copy_from_slice(part(s, at, N));
+    r
 }
 
-// The number in four bytes, low byte first.
-pub fn four_at(s: &[u8], at: usize) -> u32
-    requires { at + 4 ≤ length s.now }
-    ensures { result ≡ low_first (part_of s.now at 4) }
-{
-    let low = two_at(s, at) as u32;
-    let high = two_at(s, at + 2) as u32;
-    low + 65536 * high
+// A number that stands in so many bytes, low byte first.
+pub trait LowFirst: Sized {
+    ghost width: { ℕ };
+
+    ghost value: { Self → ℕ };
+
+    // The number in the bytes that begin at `at`.
+    fn low_first_at(s: &[u8], at: usize) -> Self
+        requires { at + width ≤ length s.now }
+        ensures { value result ≡ low_first (part_of s.now at width) };
 }
 
-// The number in eight bytes, low byte first.
-pub fn eight_at(s: &[u8], at: usize) -> u64
-    requires { at + 8 ≤ length s.now }
-    ensures { result ≡ low_first (part_of s.now at 8) }
-{
-    let low = four_at(s, at) as u64;
-    let high = four_at(s, at + 4) as u64;
-    low + 4294967296 * high
+impl LowFirst for u16 {
+    ghost width = { 2 };
+
+    ghost value = { λ x. x };
+
+    fn low_first_at(s: &[u8], at: usize) -> Self {
+        u16::from_le_bytes(array_at(s, at))
+    }
+}
+
+impl LowFirst for u32 {
+    ghost width = { 4 };
+
+    ghost value = { λ x. x };
+
+    fn low_first_at(s: &[u8], at: usize) -> Self {
+        u32::from_le_bytes(array_at(s, at))
+    }
+}
+
+impl LowFirst for u64 {
+    ghost width = { 8 };
+
+    ghost value = { λ x. x };
+
+    fn low_first_at(s: &[u8], at: usize) -> Self {
+        u64::from_le_bytes(array_at(s, at))
+    }
 }
 
 // Every byte is zero, one after the other.
 fn bytes_zero(s: &[u8]) -> bool
     ensures { result ≡ zeros s.now }
 {
-    let mut k: usize = 0;
-    while k < s.len() {
-        if s[k] != 0 {
+    for b in s {
+        if *b != 0 {
             return false;
         }
-        k += 1;
     }
     true
 }
@@ -113,12 +129,10 @@ fn words_zero(s: &[u8], n: usize) -> bool
     requires { 8 * n ≤ length s.now }
     ensures { result ≡ all (zero_at s.now) (8 * n) }
 {
-    let mut k: usize = 0;
-    while k < n {
-        if eight_at(s, 8 * k) != 0 {
+    for k in 0..n {
+        if u64::low_first_at(s, 8 * k) != 0 {
             return false;
         }
-        k += 1;
     }
     true
 }
@@ -134,7 +148,7 @@ pub fn is_zero(s: &[u8]) -> bool
     if !words_zero(s, n / 8) {
         return false;
     }
-    eight_at(s, n - 8) == 0
+    u64::low_first_at(s, n - 8) == 0
 }
 
 // Two slices of one length are the same, byte by byte.
@@ -142,12 +156,10 @@ fn bytes_same(a: &[u8], b: &[u8]) -> bool
     requires { length b.now ≡ length a.now }
     ensures { result ≡ same a.now b.now }
 {
-    let mut k: usize = 0;
-    while k < a.len() {
+    for k in 0..a.len() {
         if a[k] != b[k] {
             return false;
         }
-        k += 1;
     }
     true
 }
@@ -158,11 +170,11 @@ fn ends_same(a: &[u8], b: &[u8]) -> bool
     requires { (8 ≤ length a.now) × (length a.now ≤ 16) × (length b.now ≡ length a.now) }
     ensures { result ≡ same a.now b.now }
 {
-    if eight_at(a, 0) != eight_at(b, 0) {
+    if u64::low_first_at(a, 0) != u64::low_first_at(b, 0) {
         return false;
     }
     let last = a.len() - 8;
-    eight_at(a, last) == eight_at(b, last)
+    u64::low_first_at(a, last) == u64::low_first_at(b, last)
 }
 
 // Two slices are as long as each other and the same byte by byte.
@@ -182,19 +194,17 @@ pub fn is_same(a: &[u8], b: &[u8]) -> bool
     ends_same(a, b)
 }
 
-// The first of n rows of w bytes that begins with these bytes, or n.
-pub fn find(table: &[u8], w: usize, n: usize, bytes: &[u8]) -> usize
+// The first of n rows of w bytes that begins with these bytes.
+pub fn find(table: &[u8], w: usize, n: usize, bytes: &[u8]) -> Option<usize>
     requires { (w * n ≤ length table.now) × (length bytes.now ≤ w) }
-    ensures { result ≡ first (begins w table.now bytes.now) n }
+    ensures { Finds n (first (begins w table.now bytes.now) n) result }
 {
-    let mut i: usize = 0;
-    while i < n {
+    for i in 0..n {
         if is_same(part(table, w * i, bytes.len()), bytes) {
-            return i;
+            return Some(i);
         }
-        i += 1;
     }
-    n
+    None
 }
 
 // Bit n of a word is set; it has none past the sixty-fourth.
@@ -205,41 +215,4 @@ pub fn is_bit(word: u64, n: usize) -> bool
         return false;
     }
     (word >> n) % 2 == 1
-}
-
-// Parts of four, six, eight and thirteen bytes, by value.
-pub fn four_of(s: &[u8], at: usize) -> [u8; 4]
-    requires { at + 4 ≤ length s.now }
-    ensures { result ≡ part_of s.now at 4 }
-{
-    let mut r = [0u8; 4];
-    r.copy_from_slice(part(s, at, 4));
-    r
-}
-
-pub fn six_of(s: &[u8], at: usize) -> [u8; 6]
-    requires { at + 6 ≤ length s.now }
-    ensures { result ≡ part_of s.now at 6 }
-{
-    let mut r = [0u8; 6];
-    r.copy_from_slice(part(s, at, 6));
-    r
-}
-
-pub fn eight_of(s: &[u8], at: usize) -> [u8; 8]
-    requires { at + 8 ≤ length s.now }
-    ensures { result ≡ part_of s.now at 8 }
-{
-    let mut r = [0u8; 8];
-    r.copy_from_slice(part(s, at, 8));
-    r
-}
-
-pub fn thirteen_of(s: &[u8], at: usize) -> [u8; 13]
-    requires { at + 13 ≤ length s.now }
-    ensures { result ≡ part_of s.now at 13 }
-{
-    let mut r = [0u8; 13];
-    r.copy_from_slice(part(s, at, 13));
-    r
 }

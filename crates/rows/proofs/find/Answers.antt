@@ -17,7 +17,7 @@ part-requires c = omega (arith, row_end c.args.w c.loop-i-test.true)
 pub returns-then-is_same : goal.returns-then-is_same
 unfolding begins
 returns-then-is_same c =
-    search_hit _ _ c.loop-i.invariant c.loop-i-test.true (rw (sym c.part.ensures) (sym c.is_same.ensures.answer ∙ c.if-is_same.true))
+    (search_hit _ _ c.loop-i.invariant c.loop-i-test.true (rw (sym c.part.ensures) (sym c.is_same.ensures.answer ∙ c.if-is_same.true)), c.loop-i-test.true)
 
 pub loop-i-preserved : goal.loop-i-preserved
 unfolding begins
