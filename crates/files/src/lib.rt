@@ -1,7 +1,8 @@
-// Reading into lent bytes. What cannot be read is told on standard error, under the name that the caller gives it.
+// Reading into lent bytes, and how what cannot be read is told on standard error, under the name that the caller gives it.
 #![tactic(auto)]
 
-ghost use Rattle.std.specs.Prelude.{◌≡◌, ◌≤◌, ◌<◌, length, take};
+ghost use Rattle.std.specs.Prelude.{◌≡◌, ◌≤◌, ◌<◌, IfOk, length, take};
+ghost use Rattle.std.specs.Result.{result_ok};
 ghost use Rattle.files.specs.Counts.{IsPrefixLen};
 
 use std::fs::File;
@@ -20,13 +21,6 @@ impl Errors for HostRuntime {
     }
 }
 
-// After a read: where what was read then ends, and whether it could not be read.
-#[derive(Clone, Copy)]
-pub struct Reach {
-    pub end: usize,
-    pub failed: bool,
-}
-
 // Room for an error as std puts it, the system's words and its number behind them.
 const WORDS: usize = 256;
 
@@ -40,14 +34,9 @@ const NOT_TEXT: i32 = 84;
 fn words_of(text: &[u8]) -> usize
     ensures { IsPrefixLen result text.now }
 {
-    let mut n: usize = 0;
-    while n < text.len() {
-        if text[n..].starts_with(&NUMBER) {
-            return n;
-        }
-        n += 1;
-    }
-    n
+    text.windows(NUMBER.len())
+        .position(|bytes| bytes == NUMBER.as_slice())
+        .unwrap_or(text.len())
 }
 
 // Puts an error down as std puts it, and answers its length.
@@ -71,71 +60,53 @@ pub fn tell_error(rt: &impl Errors, what: &[u8], error: &Error) {
     rt.tell(b"\n");
 }
 
-// Reads once, behind what is kept, where there is room. Where that fails, a line on standard error says why.
-pub fn read_more<R: Read>(
-    rt: &impl Errors,
-    reader: &mut R,
-    name: &[u8],
-    input: &mut [u8],
-    kept: usize,
-) -> Reach
-    requires { kept < length input.old }
-    ensures { (kept ≤ result.end) × (result.end ≤ length input.old) × (take kept input.new ≡ take kept input.old) }
+// What an attempt gave. Where it failed, a line on standard error says what did, as the caller names it, and why.
+pub fn or_tell<T>(rt: &impl Errors, what: &[u8], attempt: io::Result<T>) -> Option<T>
+    ensures { result ≡ result_ok attempt }
 {
-    match reader.read(&mut input[kept..]) {
-        Ok(more) => Reach {
-            end: kept + more,
-            failed: false,
-        },
+    match attempt {
+        Ok(value) => Some(value),
         Err(error) => {
-            tell_error(rt, name, &error);
-            Reach {
-                end: kept,
-                failed: true,
-            }
+            tell_error(rt, what, &error);
+            None
         }
     }
 }
 
+// Reads once, behind what is kept, where there is room, and answers where what was read then ends.
+pub fn read_more<R: Read>(reader: &mut R, input: &mut [u8], kept: usize) -> io::Result<usize>
+    requires { kept < length input.old }
+    ensures ends { IfOk result (λ end. (kept ≤ end) × (end ≤ length input.old)) }
+    ensures keeps { take kept input.new ≡ take kept input.old }
+{
+    let more = reader.read(&mut input[kept..])?;
+    Ok(kept + more)
+}
+
 // Reads to the end, or until there is no more room.
-fn read_whole<R: Read>(rt: &impl Errors, reader: &mut R, name: &[u8], file: &mut [u8]) -> Reach
-    ensures { IsPrefixLen result.end file.new }
+fn read_whole<R: Read>(reader: &mut R, file: &mut [u8]) -> io::Result<usize>
+    ensures { IfOk result (λ n. IsPrefixLen n file.new) }
 {
     let mut n: usize = 0;
     while n < file.len() {
-        let reach = read_more(rt, reader, name, file, n);
-        let end = reach.end;
+        let end = read_more(reader, file, n)?;
         if end == n {
-            return reach;
+            return Ok(n);
         }
         n = end;
     }
-    Reach {
-        end: n,
-        failed: false,
-    }
+    Ok(n)
 }
 
 // Opens the file at this path.
 fn open<R: Files>(rt: &R, path: &[u8]) -> io::Result<R::File> {
-    match str::from_utf8(path) {
-        Ok(text) => File::open(rt, text),
-        Err(_) => Err(Error::from_raw_os_error(NOT_TEXT)),
-    }
+    let text = str::from_utf8(path).map_err(|_| Error::from_raw_os_error(NOT_TEXT))?;
+    File::open(rt, text)
 }
 
-// Reads the file at this path to its end, or until there is no more room.
-pub fn read_file<R: Files + Errors>(rt: &R, path: &[u8], name: &[u8], file: &mut [u8]) -> Reach
-    ensures { IsPrefixLen result.end file.new }
+// Reads the file at this path to its end, or until there is no more room, and answers how long it is.
+pub fn read_file<R: Files>(rt: &R, path: &[u8], file: &mut [u8]) -> io::Result<usize>
+    ensures { IfOk result (λ n. IsPrefixLen n file.new) }
 {
-    match open(rt, path) {
-        Ok(mut opened) => read_whole(rt, &mut opened, name, file),
-        Err(error) => {
-            tell_error(rt, name, &error);
-            Reach {
-                end: 0,
-                failed: true,
-            }
-        }
-    }
+    read_whole(&mut open(rt, path)?, file)
 }
