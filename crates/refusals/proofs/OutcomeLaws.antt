@@ -4,7 +4,7 @@ use Rattle.std.specs.Prelude.{Result, Ok, Err}
 use Rattle.refusals.specs.declared.Refusal.{Refusal}
 use Rattle.refusals.specs.declared.Refusal.TheVariants.{EmptyFrame, NobodysNumber, UnknownCode, WrongLength, Misplaced, WrongDtn, WrongSource, NoSuchPartition, OutsidePartition, BadSiteFile, BadTables, HeardTooEarly, ShortBuffer, StillWaiting, UnfitReply, NoSuchSize, DataTooLong, NoFlag, SevenOnes, NoWholeBytes, TooFewBytes, WrongCheck, BadBootTables}
 use Rattle.refusals.specs.Refusals.{number}
-use Rattle.refusals.specs.Outcomes.{refusal_in, GivesUnless, LeavesUnless}
+use Rattle.refusals.specs.Outcomes.{GivesUnless, LeavesUnless}
 
 abbrev in_order : List Refusal
 in_order = EmptyFrame ∷ NobodysNumber ∷ UnknownCode ∷ WrongLength ∷ Misplaced ∷ WrongDtn ∷ WrongSource ∷ NoSuchPartition ∷ OutsidePartition ∷ BadSiteFile ∷ BadTables ∷ HeardTooEarly ∷ ShortBuffer ∷ StillWaiting ∷ UnfitReply ∷ NoSuchSize ∷ DataTooLong ∷ NoFlag ∷ SevenOnes ∷ NoWholeBytes ∷ TooFewBytes ∷ WrongCheck ∷ BadBootTables ∷ []

@@ -12,6 +12,7 @@ use lib.Pow.{pow_pos}
 use borrow.Author.Tests.{ltb-true, ltb-false, eqb-true, eq-eqb, ne_eqb}
 use Rattle.rows.proofs.BoolLaws.{by_test, contra}
 use Rattle.rows.proofs.IndexLaws.{all_at}
+use Rattle.std.specs.Int.{sum_through, byte_worth}
 use Rattle.rows.specs.Words.{all, build, same, zero_at}
 use Rattle.rows.specs.Rows.{part}
 use Rattle.rows.specs.Numbers.{low_first, low_bytes, bit_at}
@@ -129,23 +130,36 @@ unfolding part
 low_parts l at n m h =
     rw (take-add n m (drop at l), low_append, drop-drop, length-take-le n (drop at l) (simp length-drop (omega arith)))
 
--- the number in two bytes, in four, and in eight
-module _ (l : List ℕ) (at : ℕ) where
-  pub two_bytes : at + 2 ≤ length l → part l at 2 ≡ get_or l at 0 ∷ get_or l (at + 1) 0 ∷ []
-  unfolding build
-  two_bytes h =
-      sym (build_list (part l at 2) 2 (length_part l at 2 h))
-      ∙ rw (get_d_part l at 2 0 (lit< tt), get_d_part l at 2 1 (lit< tt), add-zero)
+-- the two bytes of a part
+pub two_bytes : (l : List ℕ) (at : ℕ) → at + 2 ≤ length l → part l at 2 ≡ get_or l at 0 ∷ get_or l (at + 1) 0 ∷ []
+unfolding build
+two_bytes l at h =
+    sym (build_list (part l at 2) 2 (length_part l at 2 h))
+    ∙ rw (get_d_part l at 2 0 (lit< tt), get_d_part l at 2 1 (lit< tt), add-zero)
 
-  pub two_low : at + 2 ≤ length l → low_first (part l at 2) ≡ get_or l at 0 + 256 * get_or l (at + 1) 0
-  unfolding low_first
-  two_low h = rw (two_bytes h) (omega arith)
+-- the number is the sum of what each byte is worth at its place, as std has it
+worth : List ℕ → ℕ → ℕ
+worth l n = sum_through (λ i. byte_worth i (get_or l i 0)) n
 
-  pub four_low : at + 4 ≤ length l → low_first (part l at 4) ≡ low_first (part l at 2) + 65536 * low_first (part l (at + 2) 2)
-  four_low h = low_parts l at 2 2 h
+worth_more : (n b : ℕ) (l : List ℕ) → worth (b ∷ l) (suc n) ≡ b + 256 * worth l n
+unfolding worth
+worth_more zero b l = omega arith
+worth_more (suc n) b l =
+    let x = get_or l (suc n) 0 in
+    let p = 256 ^ suc n in
+    let more : x * 256 ^ suc (suc n) ≡ 256 * (x * p) = rw (pow-suc 256 (suc n)) (omega (arith, mul_assoc x p 256)) in
+    omega (arith, worth_more n b l, more)
 
-  pub eight_low : at + 8 ≤ length l → low_first (part l at 8) ≡ low_first (part l at 4) + 4294967296 * low_first (part l (at + 4) 4)
-  eight_low h = low_parts l at 4 4 h
+pub low_worth : (n : ℕ) (l : List ℕ) → length l ≡ suc n → low_first l ≡ sum_through (λ i. byte_worth i (get_or l i 0)) n
+unfolding low_first worth
+low_worth n [] h = omega (arith, h)
+low_worth zero (b ∷ []) h = omega arith
+low_worth zero (b ∷ c ∷ l) h = omega (arith, h)
+low_worth (suc n) (b ∷ l) h = omega (arith, worth_more n b l, low_worth n l (omega (arith, h)))
+
+-- so what std reads of a part is the number in it
+pub part_worth : (s : List ℕ) (at n : ℕ) (l : List ℕ) → at + suc n ≤ length s → l ≡ part s at (suc n) → sum_through (λ i. byte_worth i (get_or l i 0)) n ≡ low_first (part s at (suc n))
+part_worth s at n l h e = rw e (sym (low_worth n (part s at (suc n)) (length_part s at (suc n) h)))
 
 -- a number has no bit past its size, and its next bit is the next of its half
 pub bit_past : (x n : ℕ) → x < 2 ^ n → bit_at x n ≡ false

@@ -10,11 +10,11 @@ use mathlib.Core.Path.{sym, ap, ◌∙◌}
 use Prim.Native.Nat.{ℕ, ◌-◌}
 use Rattle.rows.proofs.ends_same.Goals as goal
 
-pub returns-then-eight_at : goal.returns-then-eight_at
-returns-then-eight_at c =
+pub returns-then-low_first_at : goal.returns-then-low_first_at
+returns-then-low_first_at c =
     let a = c.args.a.now in
     let b = c.args.b.now in
-    refuted _ (λ h. c.if-eight_at.true (c.eight_at.ensures ∙ ap (λ (l : List ℕ). low_first (part l 0 8)) (same_is a b h) ∙ sym c.eight_at-2.ensures))
+    refuted _ (λ h. c.if-low_first_at.true (c.low_first_at.ensures ∙ ap (λ (l : List ℕ). low_first (part l 0 8)) (same_is a b h) ∙ sym c.low_first_at-2.ensures))
 
 pub returns : goal.returns
 returns c =
@@ -23,6 +23,6 @@ returns c =
     let last = length a - 8 in
     iff _ _
     (λ y. ends_low a b (λ i. (c.shared_slice_known-1.given i).fits) (λ i. (c.shared_slice_known-2-1.given i).fits) (sym c.requires.2) c.requires.0 c.requires.1
-    (sym c.eight_at.ensures ∙ c.if-eight_at.false ∙ c.eight_at-2.ensures)
-    (sym c.eight_at-3.ensures ∙ eqb-true _ _ y ∙ c.eight_at-4.ensures))
-    (λ h. eq-eqb _ _ (c.eight_at-3.ensures ∙ ap (λ (l : List ℕ). low_first (part l last 8)) (same_is a b h) ∙ sym c.eight_at-4.ensures))
+    (sym c.low_first_at.ensures ∙ c.if-low_first_at.false ∙ c.low_first_at-2.ensures)
+    (sym c.low_first_at-3.ensures ∙ eqb-true _ _ y ∙ c.low_first_at-4.ensures))
+    (λ h. eq-eqb _ _ (c.low_first_at-3.ensures ∙ ap (λ (l : List ℕ). low_first (part l last 8)) (same_is a b h) ∙ sym c.low_first_at-4.ensures))

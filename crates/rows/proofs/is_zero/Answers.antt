@@ -27,6 +27,6 @@ returns c =
       answer = iff _ _
           (λ y. all_from (zero_at s) n (λ j l. by_test (ltb j (8 * (n / 8)))
           (λ b. all_at (zero_at s) (8 * (n / 8)) j front (ltb-true _ _ b))
-          (λ b. eight_zero s (n - 8) (omega arith) (sym c.eight_at.ensures ∙ eqb-true _ _ y) j (omega (arith, ltb-false j (8 * (n / 8)) b)) (omega arith))))
-          (λ z. by_test _ (λ y. y) (λ b. both (all_from (zero_at s) (n - 8 + 8) (λ j l. all_at (zero_at s) n j z (omega arith))) (eight_some s (n - 8) (omega arith) (λ e. eqb-false _ _ b (c.eight_at.ensures ∙ e)))));
+          (λ b. eight_zero s (n - 8) (omega arith) (sym c.low_first_at.ensures ∙ eqb-true _ _ y) j (omega (arith, ltb-false j (8 * (n / 8)) b)) (omega arith))))
+          (λ z. by_test _ (λ y. y) (λ b. both (all_from (zero_at s) (n - 8 + 8) (λ j l. all_at (zero_at s) n j z (omega arith))) (eight_some s (n - 8) (omega arith) (λ e. eqb-false _ _ b (c.low_first_at.ensures ∙ e)))));
     }

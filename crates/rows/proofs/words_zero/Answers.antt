@@ -14,11 +14,11 @@ pub loop-k-init : goal.loop-k-init
 unfolding all
 loop-k-init c = (omega arith, refl)
 
-pub returns-then-eight_at-ne0 : goal.returns-then-eight_at-ne0
-returns-then-eight_at-ne0 c =
+pub returns-then-low_first_at-ne0 : goal.returns-then-low_first_at-ne0
+returns-then-low_first_at-ne0 c =
     let s = c.args.s.now in
     let at = 8 * c.loop-k.k in
-    refuted _ (λ z. both (all_from (zero_at s) _ (λ j l. all_at (zero_at s) _ j z (omega arith))) (eight_some s at (omega arith) (λ e. c.if-eight_at-ne0.true (c.eight_at.ensures ∙ e))))
+    refuted _ (λ z. both (all_from (zero_at s) _ (λ j l. all_at (zero_at s) _ j z (omega arith))) (eight_some s at (omega arith) (λ e. c.if-low_first_at-ne0.true (c.low_first_at.ensures ∙ e))))
 
 pub loop-k-preserved : goal.loop-k-preserved
 loop-k-preserved c =
@@ -27,7 +27,7 @@ loop-k-preserved c =
       omega arith,
       all_from (zero_at s) _ (λ j l. by_test (ltb j at)
           (λ y. all_at (zero_at s) at j c.loop-k.invariant.1 (ltb-true j at y))
-          (λ m. eight_zero s at (omega arith) (sym c.eight_at.ensures ∙ c.if-eight_at-ne0.false) j (ltb-false j at m) (omega arith))),
+          (λ m. eight_zero s at (omega arith) (sym c.low_first_at.ensures ∙ c.if-low_first_at-ne0.false) j (ltb-false j at m) (omega arith))),
     )
 
 pub returns : goal.returns
