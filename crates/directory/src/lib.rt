@@ -3,7 +3,10 @@
 #![tactic(auto)]
 
 ghost use Rattle.std.specs.Prelude.{◌≡◌, ◌<◌, length};
+ghost use Rattle.rows.specs.Outcomes.{Finds};
 ghost use Rattle.directory.specs.Directory.{files, file_length, file_entry, file_of, in_directory};
+
+use rows::LowFirst;
 
 // The bytes of a row, and of a name.
 pub const ROW: usize = 24;
@@ -17,16 +20,15 @@ pub fn count(directory: &[u8]) -> usize
     directory.len() / ROW
 }
 
-// The first file with this name, or the number of rows. A null name is not looked for.
-pub fn find(directory: &[u8], name: &[u8]) -> usize
+// The first file with this name. A null name is not looked for.
+pub fn find(directory: &[u8], name: &[u8]) -> Option<usize>
     requires { length name.now ≡ 8 }
-    ensures { result ≡ file_of directory.now name.now }
+    ensures { Finds (files directory.now) (file_of directory.now name.now) result }
 {
-    let n = count(directory);
     if rows::is_same(name, &[0u8; NAME]) {
-        return n;
+        return None;
     }
-    rows::find(directory, ROW, n, name)
+    rows::find(directory, ROW, count(directory), name)
 }
 
 // There is a file with this name.
@@ -34,7 +36,7 @@ pub fn is_there(directory: &[u8], name: &[u8]) -> bool
     requires { length name.now ≡ 8 }
     ensures { result ≡ in_directory directory.now name.now }
 {
-    find(directory, name) < count(directory)
+    find(directory, name).is_some()
 }
 
 // The length of file i, in sectors.
@@ -42,7 +44,7 @@ pub fn length_of(directory: &[u8], i: usize) -> u16
     requires { i < files directory.now }
     ensures { result ≡ file_length directory.now i }
 {
-    rows::two_at(directory, ROW * i + 13)
+    u16::low_first_at(directory, ROW * i + 13)
 }
 
 // The row of file i without its name.

@@ -1,5 +1,6 @@
 -- A row of the lock table, 16 bytes: owner, length, 13 string bytes, one spare.
 use Rattle.std.specs.Prelude.{ℕ, Bool, cond, List, [], ◌∷◌, ◌++◌, eqb, get_or, replicate}
+use Rattle.std.proofs.Common.{lit≤}
 use Rattle.terms.specs.declared.table.Shape.{Shape}
 use Rattle.terms.specs.declared.LockString.{LockString}
 use Rattle.terms.specs.Strings.{string_bytes, normal}
@@ -10,7 +11,7 @@ owner r = get_or r 0 0
 
 -- how the rows hold their strings
 abbrev pub lock_rows : Shape
-lock_rows = record { width = 16; string = 1; free = 0xFF }
+lock_rows = record { width = 16; string = 1; free = 0xFF; room = lit≤ tt }
 
 abbrev pub string_of : List ℕ → LockString
 string_of = Tables.string_in lock_rows

@@ -7,12 +7,13 @@ mod rules;
 ghost use Rattle.std.specs.Prelude.{◌≡◌, ◌+◌, ◌*◌, ◌≤◌, ◌<◌, length};
 ghost use Rattle.rows.specs.Numbers.{bit_at};
 ghost use Rattle.rows.specs.Rows.{row as row_at, set_row};
-ghost use Rattle.rows.specs.Outcomes.{Gives, Leaves};
+ghost use Rattle.rows.specs.Outcomes.{Gives, Leaves, Finds};
+ghost use Rattle.terms.specs.Statuses.{byte_of};
 ghost use Rattle.locks.specs.Row.{freed};
-ghost use Rattle.locks.specs.Table.{lowest_free as lowest_free_of, lock_status, lock_table, unlock_status, unlock_table, cleared_table};
+ghost use Rattle.locks.specs.Table.{row_count, lowest_free as lowest_free_of, lock_status, lock_table, unlock_status, unlock_table, cleared_table};
 ghost use Rattle.locks.specs.Good.{locks as lock_count, good_locks, fresh_locks};
 
-use terms::{LockString, table};
+use terms::{LockString, Status};
 
 pub const LOCKS: usize = 64;
 
@@ -22,61 +23,53 @@ pub const BYTES: usize = 1024;
 
 const FREE_ROW: [u8; 16] = [0xFF, 0, 0, 0, 0, 0, 0, 0, 0, 0, 0, 0, 0, 0, 0, 0];
 
-// The lowest free row, or the number of rows.
-fn lowest_free(table: &[u8]) -> usize
-    ensures { result ≡ lowest_free_of table.now }
+// The lowest free row.
+fn lowest_free(table: &[u8]) -> Option<usize>
+    ensures { Finds (row_count table.now) (lowest_free_of table.now) result }
 {
-    let count = table.len() / ROW;
-    let mut i: usize = 0;
-    while i < count {
+    for i in 0..table.len() / ROW {
         if row::is_free(table, i) {
-            return i;
+            return Some(i);
         }
-        i += 1;
     }
-    count
+    None
 }
 
 // Lock: 02 for an illegal length, 81 held by the sender, 01 held by another, 82 no free row, 00 granted.
-pub fn lock(table: &mut [u8], who: u8, s: LockString) -> u8
-    ensures { Leaves (lock_status table.old who s) (lock_table table.old who s) result table.new }
+pub fn lock(table: &mut [u8], who: u8, s: LockString) -> Status
+    ensures { Leaves (lock_status table.old who s) (lock_table table.old who s) (byte_of result) table.new }
 {
     if !terms::is_legal(s) {
-        return 0x02;
+        return Status::NotYours;
     }
-    let count = table.len() / ROW;
-    let at = row::find_string(table, count, s);
-    if at < count {
+    if let Some(at) = row::find_string(table, s) {
         if row::owner_of(table, at) == who {
-            return 0x81;
+            return Status::AlreadyYours;
         }
-        return 0x01;
+        return Status::HeldByAnother;
     }
-    let free = lowest_free(table);
-    if free < count {
-        row::fill(table, free, who, s);
-        return 0x00;
-    }
-    0x82
+    let Some(free) = lowest_free(table) else {
+        return Status::NoRoom;
+    };
+    row::fill(table, free, who, s);
+    Status::Granted
 }
 
 // Unlock: a string of legal length that the sender holds is freed, 00; anything else 02.
-pub fn unlock(table: &mut [u8], who: u8, s: LockString) -> u8
-    ensures { Leaves (unlock_status table.old who s) (unlock_table table.old who s) result table.new }
+pub fn unlock(table: &mut [u8], who: u8, s: LockString) -> Status
+    ensures { Leaves (unlock_status table.old who s) (unlock_table table.old who s) (byte_of result) table.new }
 {
     if !terms::is_legal(s) {
-        return 0x02;
+        return Status::NotYours;
     }
-    let count = table.len() / ROW;
-    let at = row::find_string(table, count, s);
-    if count <= at {
-        return 0x02;
-    }
+    let Some(at) = row::find_string(table, s) else {
+        return Status::NotYours;
+    };
     if row::owner_of(table, at) != who {
-        return 0x02;
+        return Status::NotYours;
     }
     rows::put(table, ROW * at, &FREE_ROW);
-    0x00
+    Status::Granted
 }
 
 // Frees row i where it is `who`'s.
@@ -93,11 +86,8 @@ fn free_if_of(table: &mut [u8], i: usize, who: u8)
 pub fn free_all(table: &mut [u8], who: u8)
     ensures { table.new ≡ cleared_table table.old who }
 {
-    let count = table.len() / ROW;
-    let mut i: usize = 0;
-    while i < count {
+    for i in 0..table.len() / ROW {
         free_if_of(table, i, who);
-        i += 1;
     }
 }
 
@@ -105,13 +95,7 @@ pub fn free_all(table: &mut [u8], who: u8)
 pub fn is_good(table: &[u8], word: u64) -> bool
     ensures { Gives (good_locks (bit_at word) table.now) result }
 {
-    if table.len() != BYTES {
-        return false;
-    }
-    if !rules::rows_good(table, LOCKS, word) {
-        return false;
-    }
-    table::rows_alone(table, row::shape(), LOCKS)
+    table.len() == BYTES && rules::rows_good(table, LOCKS, word) && row::strings(table).rows_alone()
 }
 
 // Leaves 64 free rows.

@@ -15,17 +15,11 @@ fn row_good(r: &[u8], word: u64) -> bool
     if r[0] == 0xFF {
         return rows::is_zero(rows::part(r, 1, 15));
     }
-    if !rows::is_bit(word, rows::index_of(r[0])) {
-        return false;
-    }
-    let len = rows::index_of(r[1]);
-    if len < 1 {
-        return false;
-    }
-    if 13 < len {
-        return false;
-    }
-    rows::is_zero(rows::part(r, 2 + len, 14 - len))
+    let len = usize::from(r[1]);
+    rows::is_bit(word, usize::from(r[0]))
+        && 1 <= len
+        && len <= 13
+        && rows::is_zero(rows::part(r, 2 + len, 14 - len))
 }
 
 // Each of the first n rows keeps the rules by itself.
@@ -33,12 +27,10 @@ pub fn rows_good(table: &[u8], n: usize, word: u64) -> bool
     requires { 16 * n ≤ length table.now }
     ensures { result ≡ all (sound_at (bit_at word) table.now) n }
 {
-    let mut i: usize = 0;
-    while i < n {
+    for i in 0..n {
         if !row_good(rows::part(table, ROW * i, ROW), word) {
             return false;
         }
-        i += 1;
     }
     true
 }

@@ -2,3 +2,4 @@ pub mod Strings
 pub mod Names
 pub mod Tables
 pub mod Shortcuts
+pub mod Statuses

@@ -8,8 +8,11 @@ pub mod table;
 ghost use Rattle.std.specs.Prelude.{◌≡◌, ◌+◌, ◌≤◌, ◌<◌, min, length};
 ghost use Rattle.rows.specs.Outcomes.{Gives};
 ghost use Rattle.rows.specs.Rows.{put};
+ghost use Rattle.terms.specs.Statuses.{byte_of, StatusOf};
 ghost use Rattle.terms.specs.Strings.{legal, string_at, string_bytes, key, normal as normal_of};
 ghost use Rattle.terms.specs.Shortcuts.{string_hash};
+
+use rows::LowFirst;
 
 #[derive(Clone, Copy)]
 pub struct Volume(pub u8);
@@ -45,22 +48,61 @@ pub struct LockString {
     pub bytes: [u8; 13],
 }
 
+// What a lock or an unlock comes to.
+#[derive(Clone, Copy, Debug, PartialEq, Eq)]
+pub enum Status {
+    Granted,
+    NotYours,
+    HeldByAnother,
+    AlreadyYours,
+    NoRoom,
+}
+
+// The byte that a station is told.
+impl From<Status> for u8 {
+    ghost from_gives = { λ s b. b ≡ byte_of s };
+
+    fn from(status: Status) -> u8 {
+        match status {
+            Status::Granted => 0x00,
+            Status::HeldByAnother => 0x01,
+            Status::NotYours => 0x02,
+            Status::AlreadyYours => 0x81,
+            Status::NoRoom => 0x82,
+        }
+    }
+}
+
+// The status of a byte; one that is no status comes back.
+impl TryFrom<u8> for Status {
+    type Error = u8;
+
+    ghost try_from_gives = { StatusOf };
+
+    fn try_from(byte: u8) -> Result<Status, u8> {
+        match byte {
+            0x00 => Ok(Status::Granted),
+            0x01 => Ok(Status::HeldByAnother),
+            0x02 => Ok(Status::NotYours),
+            0x81 => Ok(Status::AlreadyYours),
+            0x82 => Ok(Status::NoRoom),
+            _ => Err(byte),
+        }
+    }
+}
+
 // How many of the thirteen bytes belong to the string.
 fn used(len: u8) -> usize
     ensures { result ≡ min len 13 }
 {
-    if len < 13 { len as usize } else { 13 }
+    usize::from(len).min(13)
 }
 
 // The length is 1 to 13.
 pub fn is_legal(s: LockString) -> bool
     ensures { Gives (legal s) result }
 {
-    let len = s.len;
-    if len < 1 {
-        return false;
-    }
-    len <= 13
+    1 <= s.len && s.len <= 13
 }
 
 // The string that stands at `at`, its length first, by value.
@@ -70,7 +112,7 @@ pub fn string_at(bytes: &[u8], at: usize) -> LockString
 {
     LockString {
         len: bytes[at],
-        bytes: rows::thirteen_of(bytes, at + 1),
+        bytes: rows::array_at(bytes, at + 1),
     }
 }
 
@@ -79,10 +121,8 @@ pub fn put_string(bytes: &mut [u8], at: usize, s: LockString)
     requires { at + 14 ≤ length bytes.old }
     ensures { (bytes.new ≡ put bytes.old at (string_bytes s)) × (length (string_bytes s) ≡ 14) }
 {
-    let head = [s.len];
-    let own = s.bytes;
-    rows::put(bytes, at, &head);
-    rows::put(bytes, at + 1, &own);
+    rows::put(bytes, at, &[s.len]);
+    rows::put(bytes, at + 1, &s.bytes);
 }
 
 // The bytes of the string that stands at `at`, as many as its length says, where they stand.
@@ -98,20 +138,18 @@ fn hash_at(bytes: &[u8], at: usize) -> usize
     requires { at + 14 ≤ length bytes.now }
     ensures { (result ≡ string_hash (string_at bytes.now at)) × (result < 1024) }
 {
-    let a = rows::four_at(bytes, at + 1);
-    let b = rows::four_at(bytes, at + 5);
-    let c = rows::four_at(bytes, at + 9);
-    rows::marks::hash(a, b, c, rows::wide(bytes[at + 13]))
+    let a = u32::low_first_at(bytes, at + 1);
+    let b = u32::low_first_at(bytes, at + 5);
+    let c = u32::low_first_at(bytes, at + 9);
+    rows::marks::hash(a, b, c, u32::from(bytes[at + 13]))
 }
 
 // The string with zeros after its length.
 pub fn normal(s: LockString) -> LockString
     ensures { Gives (normal_of s) result }
 {
-    let len = s.len;
-    let n = used(len);
-    let from = s.bytes;
+    let n = used(s.len);
     let mut bytes = [0u8; 13];
-    rows::put(&mut bytes, 0, &from[..n]);
-    LockString { len, bytes }
+    rows::put(&mut bytes, 0, &s.bytes[..n]);
+    LockString { len: s.len, bytes }
 }

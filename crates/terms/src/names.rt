@@ -2,6 +2,8 @@
 ghost use Rattle.std.specs.Prelude.{◌≡◌, length};
 ghost use Rattle.terms.specs.Shortcuts.{name_solid, pattern_of, matches as is_match};
 
+use rows::LowFirst;
+
 // In each byte all bits but the one by which a space differs from a zero.
 const SOLID: u64 = 0xDFDF_DFDF_DFDF_DFDF;
 
@@ -10,7 +12,7 @@ pub fn solid_of(name: &[u8]) -> u64
     requires { length name.now ≡ 8 }
     ensures { result ≡ name_solid name.now }
 {
-    rows::eight_at(name, 0) & SOLID
+    u64::low_first_at(name, 0) & SOLID
 }
 
 // What a name is compared by: the number in its normal form, and the bits of another name that are to be those of that number.
@@ -26,7 +28,7 @@ pub fn pattern_of(name: &[u8]) -> Pattern
     requires { length name.now ≡ 8 }
     ensures { result ≡ pattern_of name.now }
 {
-    let all = rows::eight_at(name, 0);
+    let all = u64::low_first_at(name, 0);
     let solid = all & SOLID;
     if solid == 0 {
         return Pattern {
@@ -34,8 +36,8 @@ pub fn pattern_of(name: &[u8]) -> Pattern
             mask: SOLID,
         };
     }
-    let padding = u64::leading_zeros(solid) / 8 * 8;
-    let kept = 0xFFFF_FFFF_FFFF_FFFF >> padding;
+    let padding = solid.leading_zeros() / 8 * 8;
+    let kept = u64::MAX >> padding;
     Pattern {
         word: all & kept,
         mask: kept | SOLID,
@@ -47,7 +49,5 @@ pub fn matches(name: &[u8], pattern: Pattern) -> bool
     requires { length name.now ≡ 8 }
     ensures { result ≡ is_match name.now pattern }
 {
-    let word = pattern.word;
-    let mask = pattern.mask;
-    rows::eight_at(name, 0) & mask == word
+    u64::low_first_at(name, 0) & pattern.mask == pattern.word
 }

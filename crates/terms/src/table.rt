@@ -1,10 +1,6 @@
-// Lock strings in the rows of a table: the search for one, and the check that none stands twice. The rows are of one width,
-// as many as the slice has; a row is free where its first byte says so, and the string stands at one place in its row.
-ghost use Rattle.std.specs.Prelude.{◌≡◌, true, false, ◌&&◌, ℕ, ◌+◌, ◌*◌, ◌≤◌, ◌<◌, eqb, length};
-ghost use Rattle.rows.specs.Words.{all, first, same};
-ghost use Rattle.terms.specs.Strings.{string_at, key, normal};
-ghost use Rattle.terms.specs.Tables.{row_free, row_string, row_holds, row_alone};
-ghost use Rattle.terms.specs.Shortcuts.{string_hash, row_has_key};
+// Lock strings in the rows of a table: the search for one, and the check that none stands twice. The rows are of one width;
+// a row is free where its first byte says so, and the string stands at one place in its row.
+ghost use Rattle.std.specs.Prelude.{◌+◌, ◌*◌, ◌≤◌, length};
 
 use crate::LockString;
 
@@ -14,109 +10,109 @@ pub struct Shape {
     pub width: usize,
     pub string: usize,
     pub free: u8,
+    pub ghost room: { string + 14 ≤ width },
 }
 
-// Row i is free.
-fn is_free(table: &[u8], shape: Shape, i: usize) -> bool
-    requires width_in_bounds { shape.width * i + shape.width ≤ length table.now }
-    requires string_bound { shape.string + 14 ≤ shape.width }
-    ensures { result ≡ row_free shape table.now i }
-{
-    table[shape.width * i] == shape.free
+// So many rows of one shape, in lent bytes.
+#[derive(Clone, Copy)]
+pub struct Table<'a> {
+    pub bytes: &'a [u8],
+    pub shape: Shape,
+    pub count: usize,
+    pub ghost whole: { shape.width * count ≤ length bytes.now },
 }
 
-// The string that stands at `at` has this length and these bytes. It is compared where it stands.
-fn is_key_at(bytes: &[u8], at: usize, len: u8, own: &[u8]) -> bool
-    requires { at + 14 ≤ length bytes.now }
-    ensures { result ≡ (eqb (string_at bytes.now at).len len && same (key (string_at bytes.now at)) own.now) }
-{
-    if bytes[at] != len {
-        return false;
+impl Table<'_> {
+    ghost use Rattle.std.specs.Prelude.{◌≡◌, ℕ, true, false, ◌&&◌, ◌<◌, eqb};
+    ghost use Rattle.rows.specs.Outcomes.{Gives, Finds};
+    ghost use Rattle.rows.specs.Words.{all, first, same};
+    ghost use Rattle.terms.specs.Strings.{string_at, key, normal};
+    ghost use Rattle.terms.specs.Tables.{row_free, row_string, row_holds, row_alone};
+    ghost use Rattle.terms.specs.Shortcuts.{string_hash, row_has_key};
+
+    // Row i is free.
+    fn is_free(&self, i: usize) -> bool
+        requires { i < self.now.count }
+        ensures { result ≡ row_free self.now.shape self.now.bytes.now i }
+    {
+        self.bytes[self.shape.width * i] == self.shape.free
     }
-    rows::is_same(crate::key_at(bytes, at), own)
-}
 
-// Row i is used and holds the string of this length and these bytes.
-fn holds(table: &[u8], shape: Shape, i: usize, len: u8, own: &[u8]) -> bool
-    requires width_in_bounds { shape.width * i + shape.width ≤ length table.now }
-    requires string_bound { shape.string + 14 ≤ shape.width }
-    ensures { result ≡ row_has_key shape table.now len own.now i }
-{
-    if is_free(table, shape, i) {
-        return false;
+    // Where the string of row i stands.
+    fn string_at(&self, i: usize) -> usize
+        requires { i < self.now.count }
+        ensures at_string { result ≡ self.now.shape.width * i + self.now.shape.string }
+        ensures in_bounds { result + 14 ≤ length self.now.bytes.now }
+    {
+        self.shape.width * i + self.shape.string
     }
-    is_key_at(table, shape.width * i + shape.string, len, own)
-}
 
-// The first of n rows that holds it, or n.
-fn find_key(table: &[u8], shape: Shape, n: usize, len: u8, own: &[u8]) -> usize
-    requires n_in_bounds { shape.width * n ≤ length table.now }
-    requires string_bound { shape.string + 14 ≤ shape.width }
-    ensures { result ≡ first (row_has_key shape table.now len own.now) n }
-{
-    let mut i: usize = 0;
-    while i < n {
-        if holds(table, shape, i, len, own) {
-            return i;
+    // Row i is used and holds the string of this length and these bytes. They are compared where they stand.
+    fn holds(&self, i: usize, len: u8, own: &[u8]) -> bool
+        requires { i < self.now.count }
+        ensures { result ≡ row_has_key self.now.shape self.now.bytes.now len own.now i }
+    {
+        let at = self.string_at(i);
+        !self.is_free(i)
+            && self.bytes[at] == len
+            && rows::is_same(crate::key_at(self.bytes, at), own)
+    }
+
+    // The first of n rows that holds it.
+    fn find_key(&self, n: usize, len: u8, own: &[u8]) -> Option<usize>
+        requires { n ≤ self.now.count }
+        ensures { Finds n (first (row_has_key self.now.shape self.now.bytes.now len own.now) n) result }
+    {
+        for i in 0..n {
+            if self.holds(i, len, own) {
+                return Some(i);
+            }
         }
-        i += 1;
+        None
     }
-    n
-}
 
-// The first of n rows that holds s, or n.
-pub fn find(table: &[u8], shape: Shape, n: usize, s: LockString) -> usize
-    requires n_in_bounds { shape.width * n ≤ length table.now }
-    requires string_bound { shape.string + 14 ≤ shape.width }
-    ensures { result ≡ first (row_holds shape table.now s) n }
-{
-    let used = crate::used(s.len);
-    let own = s.bytes;
-    find_key(table, shape, n, s.len, &own[..used])
-}
-
-// Row i is free, or no earlier row holds its string: where its hash was not seen in an earlier row, none does.
-fn row_alone(table: &[u8], shape: Shape, i: usize, seen: bool) -> bool
-    requires width_in_bounds { shape.width * i + shape.width ≤ length table.now }
-    requires string_bound { shape.string + 14 ≤ shape.width }
-    requires i_value { seen ≡ false → row_alone shape table.now i ≡ true }
-    ensures { result ≡ row_alone shape table.now i }
-{
-    if !seen {
-        return true;
+    // The first row that holds s.
+    pub fn find(&self, s: LockString) -> Option<usize>
+        ensures { Finds self.now.count (first (row_holds self.now.shape self.now.bytes.now s) self.now.count) result }
+    {
+        self.find_key(self.count, s.len, &s.bytes[..crate::used(s.len)])
     }
-    if is_free(table, shape, i) {
-        return true;
-    }
-    let at = shape.width * i + shape.string;
-    i <= find_key(table, shape, i, table[at], crate::key_at(table, at))
-}
 
-// The hash of the string of row i.
-fn hash_of(table: &[u8], shape: Shape, i: usize) -> usize
-    requires width_in_bounds { shape.width * i + shape.width ≤ length table.now }
-    requires string_bound { shape.string + 14 ≤ shape.width }
-    ensures { (result ≡ string_hash (row_string shape table.now i)) × (result < 1024) }
-{
-    crate::hash_at(table, shape.width * i + shape.string)
-}
-
-// No two of the first n rows hold the same string, where zeros stand after each. The hash of each row is marked, and only a
-// row whose hash was marked before is compared with the rows before it.
-pub fn rows_alone(table: &[u8], shape: Shape, n: usize) -> bool
-    requires n_in_bounds { shape.width * n ≤ length table.now }
-    requires string_bound { shape.string + 14 ≤ shape.width }
-    requires by_index { (i : ℕ) → i < n → row_free shape table.now i ≡ false → normal (row_string shape table.now i) ≡ row_string shape table.now i }
-    ensures { result ≡ all (row_alone shape table.now) n }
-{
-    let mut map = [0u32; 32];
-    let mut i: usize = 0;
-    while i < n {
-        let seen = rows::marks::mark(&mut map, hash_of(table, shape, i));
-        if !row_alone(table, shape, i, seen) {
-            return false;
+    // Row i is free, or no earlier row holds its string: where its hash was not seen in an earlier row, none does.
+    fn row_alone(&self, i: usize, seen: bool) -> bool
+        requires in_bounds { i < self.now.count }
+        requires unseen { seen ≡ false → row_alone self.now.shape self.now.bytes.now i ≡ true }
+        ensures { result ≡ row_alone self.now.shape self.now.bytes.now i }
+    {
+        if !seen || self.is_free(i) {
+            return true;
         }
-        i += 1;
+        let at = self.string_at(i);
+        self.find_key(i, self.bytes[at], crate::key_at(self.bytes, at))
+            .is_none()
     }
-    true
+
+    // The hash of the string of row i.
+    fn hash_of(&self, i: usize) -> usize
+        requires { i < self.now.count }
+        ensures { (result ≡ string_hash (row_string self.now.shape self.now.bytes.now i)) × (result < 1024) }
+    {
+        crate::hash_at(self.bytes, self.string_at(i))
+    }
+
+    // No two rows hold the same string, where zeros stand after each. The hash of each row is marked, and only a row whose
+    // hash was marked before is compared with the rows before it.
+    pub fn rows_alone(&self) -> bool
+        requires { (i : ℕ) → i < self.now.count → row_free self.now.shape self.now.bytes.now i ≡ false → normal (row_string self.now.shape self.now.bytes.now i) ≡ row_string self.now.shape self.now.bytes.now i }
+        ensures { Gives (all (row_alone self.now.shape self.now.bytes.now) self.now.count) result }
+    {
+        let mut map = [0u32; 32];
+        for i in 0..self.count {
+            let seen = rows::marks::mark(&mut map, self.hash_of(i));
+            if !self.row_alone(i, seen) {
+                return false;
+            }
+        }
+        true
+    }
 }

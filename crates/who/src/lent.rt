@@ -8,7 +8,7 @@ ghost use Rattle.who.specs.Good.{numbers, is_row, stations_of};
 ghost use Rattle.who.specs.Row.{vacant as vacant_of};
 ghost use Rattle.who.specs.Inner.{word_of, roll_of, noted};
 
-use crate::{NUMBERS, RECORD, Roll, Station};
+use crate::{NUMBERS, RECORD, Station};
 
 // A record that is zero and no throughout.
 pub fn vacant() -> Station
@@ -25,49 +25,30 @@ pub fn vacant() -> Station
     }
 }
 
-// The roll with record n before those that it has.
-fn note(n: usize, s: Station, rest: Roll) -> Roll
-    requires { rest.word < 9223372036854775808 }
-    ensures { result ≡ noted n s rest }
+// The word with record n, which has to keep the rules, below those that it has.
+fn note(n: usize, s: Station, word: u64) -> Option<u64>
+    requires { word < 9223372036854775808 }
+    ensures { result ≡ noted n s word }
 {
-    if !rest.good {
-        return Roll {
-            good: false,
-            word: 0,
-        };
-    }
     if !crate::station_good(n, s) {
-        return Roll {
-            good: false,
-            word: 0,
-        };
+        return None;
     }
-    if s.logged {
-        return Roll {
-            good: true,
-            word: 1 + 2 * rest.word,
-        };
-    }
-    Roll {
-        good: true,
-        word: 2 * rest.word,
-    }
+    Some(u64::from(s.logged) + 2 * word)
 }
 
-// The roll of the lent row. It is called from the last record on, so that number n ends up as bit n.
-pub fn roll_call(row: &[Station]) -> Roll
+// Who of the lent row is logged in, as a word with bit n for number n; a row that breaks the rules has none. The last record
+// is noted first, so that number n ends up as bit n.
+pub fn roll_call(row: &[Station]) -> Option<u64>
     ensures { Gives (roll_of row.now) result }
 {
-    let mut n = row.len();
-    let mut roll = Roll {
-        good: n == NUMBERS,
-        word: 0,
-    };
-    while 0 < n {
-        n = n - 1;
-        roll = note(n, row[n], roll);
+    if row.len() != NUMBERS {
+        return None;
     }
-    roll
+    let mut word = 0;
+    for n in (0..NUMBERS).rev() {
+        word = note(n, row[n], word)?;
+    }
+    Some(word)
 }
 
 // 1 where number n is logged in.
@@ -75,7 +56,7 @@ fn bit_of(records: &[u8], n: usize) -> u64
     requires { (length records.now ≡ 18 * numbers) × (n < numbers) }
     ensures { result ≡ flag (station_of (row 18 records.now n)).logged }
 {
-    if records[RECORD * n] == 1 { 1 } else { 0 }
+    u64::from(records[RECORD * n] == 1)
 }
 
 // Who is logged in as a word, bit n for number n, from the records in bytes.
@@ -83,10 +64,8 @@ pub fn word_of(records: &[u8]) -> u64
     requires { length records.now ≡ 18 * numbers }
     ensures { result ≡ word_of (stations_of records.now) }
 {
-    let mut n = NUMBERS;
-    let mut word: u64 = 0;
-    while 0 < n {
-        n = n - 1;
+    let mut word = 0;
+    for n in (0..NUMBERS).rev() {
         word = bit_of(records, n) + 2 * word;
     }
     word
@@ -98,10 +77,7 @@ fn is_flagged(records: &[u8], n: usize) -> bool
     ensures { result ≡ flagged (row 18 records.now n) }
 {
     let at = RECORD * n;
-    if 1 < records[at] {
-        return false;
-    }
-    records[at + 17] <= 1
+    records[at] <= 1 && records[at + 17] <= 1
 }
 
 // A row stands in these bytes: 64 records with flags 0 or 1.
@@ -111,12 +87,10 @@ pub fn is_row(records: &[u8]) -> bool
     if records.len() != crate::BYTES {
         return false;
     }
-    let mut n: usize = 0;
-    while n < NUMBERS {
+    for n in 0..NUMBERS {
         if !is_flagged(records, n) {
             return false;
         }
-        n += 1;
     }
     true
 }

@@ -6,11 +6,13 @@ pub mod lent;
 
 ghost use Rattle.std.specs.Prelude.{◌≡◌, ◌+◌, ◌*◌, ◌≤◌, length, true};
 ghost use Rattle.rows.specs.Rows.{row, set_row};
-ghost use Rattle.rows.specs.Outcomes.{Gives};
-ghost use Rattle.who.specs.Records.{flag, bytes_of, station_of};
+ghost use Rattle.rows.specs.Outcomes.{Gives, Finds};
+ghost use Rattle.who.specs.Records.{bytes_of, station_of};
 ghost use Rattle.who.specs.Good.{good_counts, plain, good_station, numbers, good_records};
-ghost use Rattle.who.specs.Logins.{logged_in, has_serial, free_number, lowest_number, after_logout, fresh_records};
+ghost use Rattle.who.specs.Logins.{logged_in, has_serial, free_number, record_count, lowest_number, after_logout, fresh_records};
 ghost use Rattle.who.specs.Turns.{is_due, turn_of};
+
+use rows::LowFirst;
 
 pub const NUMBERS: usize = 64;
 
@@ -23,7 +25,7 @@ const NOBODY: [u8; 18] = [0, 0, 0, 0, 0, 0, 0, 0, 0, 0, 0, 0, 0, 0, 0, 0, 0, 0];
 const LOCAL_USER: [u8; 18] = [1, 0, 0, 0, 0, 0, 0, 0, 0, 0, 0, 0, 0, 0, 0, 0, 0, 0];
 
 // One station: the seven fields of its record.
-#[derive(Clone, Copy)]
+#[derive(Clone, Copy, Debug, PartialEq, Eq)]
 pub struct Station {
     pub logged: bool,
     pub misses: u16,
@@ -34,33 +36,17 @@ pub struct Station {
     pub found: bool,
 }
 
-// Who of a row of records is logged in, as a word with bit n for number n. A row that breaks the rules has no good roll.
-#[derive(Clone, Copy)]
-pub struct Roll {
-    pub good: bool,
-    pub word: u64,
-}
-
-fn flag_of(b: bool) -> u8
-    ensures { result ≡ flag b }
-{
-    if b { 1 } else { 0 }
-}
-
 // The record of a station.
 fn bytes_of(s: Station) -> [u8; 18]
     ensures { result ≡ bytes_of s }
 {
-    let low = (s.misses % 256) as u8;
-    let high = (s.misses / 256 % 256) as u8;
-    let head = [flag_of(s.logged), low, high, s.slow];
-    let name = s.name;
-    let serial = s.serial;
-    let tail = [s.product, flag_of(s.found)];
+    let [low, high] = s.misses.to_le_bytes();
+    let head = [u8::from(s.logged), low, high, s.slow];
+    let tail = [s.product, u8::from(s.found)];
     let mut r = [0u8; 18];
     rows::put(&mut r, 0, &head);
-    rows::put(&mut r, 4, &name);
-    rows::put(&mut r, 12, &serial);
+    rows::put(&mut r, 4, &s.name);
+    rows::put(&mut r, 12, &s.serial);
     rows::put(&mut r, 16, &tail);
     r
 }
@@ -71,21 +57,14 @@ pub fn station_at(records: &[u8], n: usize) -> Station
     ensures { result ≡ station_of (row 18 records.now n) }
 {
     let at = RECORD * n;
-    let logged = records[at] == 1;
-    let misses = rows::two_at(records, at + 1);
-    let slow = records[at + 3];
-    let name = rows::eight_of(records, at + 4);
-    let serial = rows::four_of(records, at + 12);
-    let product = records[at + 16];
-    let found = records[at + 17] == 1;
     Station {
-        logged,
-        misses,
-        slow,
-        name,
-        serial,
-        product,
-        found,
+        logged: records[at] == 1,
+        misses: u16::low_first_at(records, at + 1),
+        slow: records[at + 3],
+        name: rows::array_at(records, at + 4),
+        serial: rows::array_at(records, at + 12),
+        product: records[at + 16],
+        found: records[at + 17] == 1,
     }
 }
 
@@ -94,8 +73,7 @@ pub fn put_station(records: &mut [u8], n: usize, s: Station)
     requires { 18 * n + 18 ≤ length records.old }
     ensures { records.new ≡ set_row 18 records.old n (bytes_of s) }
 {
-    let r = bytes_of(s);
-    rows::put(records, RECORD * n, &r);
+    rows::put(records, RECORD * n, &bytes_of(s));
 }
 
 // Clears record n.
@@ -110,35 +88,26 @@ pub fn log_out(records: &mut [u8], n: usize)
 pub fn is_in(records: &[u8], n: usize) -> bool
     ensures { Gives (logged_in records.now n) result }
 {
-    if n < records.len() / RECORD {
-        return records[RECORD * n] == 1;
-    }
-    false
+    n < records.len() / RECORD && records[RECORD * n] == 1
 }
 
 // A login may give number n.
 fn is_free(records: &[u8], n: usize) -> bool
     ensures { result ≡ free_number records.now n }
 {
-    if n < 1 {
-        return false;
-    }
-    !is_in(records, n)
+    1 <= n && !is_in(records, n)
 }
 
-// The lowest free number from 1 on, or the number of records.
-pub fn lowest_number(records: &[u8]) -> usize
-    ensures { Gives (lowest_number records.now) result }
+// The lowest free number from 1 on.
+pub fn lowest_number(records: &[u8]) -> Option<usize>
+    ensures { Finds (record_count records.now) (lowest_number records.now) result }
 {
-    let count = records.len() / RECORD;
-    let mut n: usize = 0;
-    while n < count {
+    for n in 0..records.len() / RECORD {
         if is_free(records, n) {
-            return n;
+            return Some(n);
         }
-        n += 1;
     }
-    count
+    None
 }
 
 // Number n, from 1 on, is logged in with this serial.
@@ -146,52 +115,26 @@ pub fn lowest_number(records: &[u8]) -> usize
 pub fn has_serial(records: &[u8], n: usize, serial: [u8; 4]) -> bool
     ensures { Gives (has_serial records.now serial n) result }
 {
-    if 1 <= n {
-        if is_in(records, n) {
-            return rows::is_same(rows::part(records, RECORD * n + 12, 4), &serial);
-        }
-    }
-    false
+    1 <= n && is_in(records, n) && rows::is_same(rows::part(records, RECORD * n + 12, 4), &serial)
 }
 
 // Misses and slow turns are in range.
 fn counts_good(misses: u16, slow: u8) -> bool
     ensures { result ≡ good_counts misses slow }
 {
-    if 255 < misses {
-        return false;
-    }
-    if 11 < slow {
-        return false;
-    }
-    if 160 <= misses {
-        return true;
-    }
-    slow == 0
+    misses <= 255 && slow <= 11 && (160 <= misses || slow == 0)
 }
 
 // All but `logged in` is zero or no.
 fn is_plain(s: Station) -> bool
     ensures { result ≡ plain s }
 {
-    if s.misses != 0 {
-        return false;
-    }
-    if s.slow != 0 {
-        return false;
-    }
-    let name = s.name;
-    if !rows::is_zero(&name) {
-        return false;
-    }
-    let serial = s.serial;
-    if !rows::is_zero(&serial) {
-        return false;
-    }
-    if s.product != 0 {
-        return false;
-    }
-    !s.found
+    s.misses == 0
+        && s.slow == 0
+        && rows::is_zero(&s.name)
+        && rows::is_zero(&s.serial)
+        && s.product == 0
+        && !s.found
 }
 
 // The record of number n keeps the rules. The counts of a record that is zero are in range.
@@ -199,7 +142,7 @@ fn station_good(n: usize, s: Station) -> bool
     ensures { result ≡ good_station n s }
 {
     if n == 0 {
-        return if s.logged { is_plain(s) } else { false };
+        return s.logged && is_plain(s);
     }
     if s.logged {
         counts_good(s.misses, s.slow)
@@ -215,12 +158,10 @@ pub fn is_good(records: &[u8]) -> bool
     if !lent::is_row(records) {
         return false;
     }
-    let mut n: usize = 0;
-    while n < NUMBERS {
+    for n in 0..NUMBERS {
         if !station_good(n, station_at(records, n)) {
             return false;
         }
-        n += 1;
     }
     true
 }
@@ -235,7 +176,7 @@ pub fn fresh(records: &mut [u8])
 }
 
 // What one poll turn does: was the station due, is it out, and its counts after the turn.
-#[derive(Clone, Copy)]
+#[derive(Clone, Copy, Debug, PartialEq, Eq)]
 pub struct Turn {
     pub due: bool,
     pub out: bool,
@@ -248,10 +189,7 @@ pub struct Turn {
 pub fn is_due(misses: u16, slow: u8) -> bool
     ensures { Gives (is_due misses slow) result }
 {
-    if misses < 160 {
-        return true;
-    }
-    slow == 11
+    misses < 160 || slow == 11
 }
 
 // One poll turn of a station with these misses and slow turns, heard or not.
