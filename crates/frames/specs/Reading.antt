@@ -7,9 +7,13 @@ use Rattle.terms.specs.Strings.{string_at}
 use Rattle.frames.specs.declared.Command.{Command}
 use Rattle.frames.specs.declared.Command.TheVariants.{Acknowledge, Read, Write, Login, Assign, Lock, Unlock, Clear, Logout}
 use Rattle.frames.specs.declared.Request.{Request}
-use Rattle.frames.specs.declared.Reading.{Reading}
 use Rattle.frames.specs.Table.{READ, WRITE, LOGIN, ASSIGN, LOCK, UNLOCK, CLEAR, LOGOUT, frame_length, carries_address}
 use Rattle.frames.specs.Requests.{no_string, plain}
+
+-- what reading gives: a refusal and nothing of a request, or 0 and the request
+pub record Reading : Type 0 where
+  pub refusal : ℕ
+  pub request : Request
 
 abbrev pub code : List ℕ → ℕ
 code f = get_or f 0 0

@@ -7,8 +7,12 @@ use Rattle.terms.specs.Strings.{string_bytes}
 use Rattle.frames.specs.declared.Command.{Command}
 use Rattle.frames.specs.declared.Command.TheVariants.{Acknowledge, Read, Write, Login, Assign, Lock, Unlock, Clear, Logout}
 use Rattle.frames.specs.declared.Request.{Request}
-use Rattle.frames.specs.declared.Written.{Written}
 use Rattle.frames.specs.Table.{ACKNOWLEDGE, READ, WRITE, LOGIN, ASSIGN, LOCK, UNLOCK, CLEAR, LOGOUT}
+
+-- what writing gives: a refusal and 0, or 0 and the length of the frame
+pub record Written : Type 0 where
+  pub refusal : ℕ
+  pub length : ℕ
 
 -- dtn, src, dsk, trk (2), sec, vli
 unfoldable pub address_fields : ℕ → Address → List ℕ

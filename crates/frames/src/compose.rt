@@ -1,114 +1,86 @@
 // Writing a frame at the start of a buffer that is long enough.
-ghost use Rattle.std.specs.Prelude.{◌≡◌, [], ◌∷◌, ◌≤◌, length};
-ghost use Rattle.rows.specs.Rows.{over};
-ghost use Rattle.terms.specs.Strings.{string_bytes};
-ghost use Rattle.frames.specs.Writing.{code_of, frame_of, address_fields, named_fields, login_fields};
-ghost use Rattle.frames.specs.Table.{LOGIN, LOGOUT};
+ghost use Rattle.std.specs.Prelude.{◌≡◌, ◌+◌, ◌≤◌, length};
+ghost use Rattle.rows.specs.Rows.{put as put_in, over};
+ghost use Rattle.frames.specs.Codes.{byte_of};
+ghost use Rattle.frames.specs.Writing.{code_of, fields_of, frame_of, address_fields, named_fields};
 
-use crate::{Command, Request, code};
-use terms::{Address, LockString};
+use crate::{Code, Command, Request};
+use terms::Address;
 
 // The code of a command.
-fn code_of(command: Command) -> u8
-    ensures { result ≡ code_of command }
-{
-    match command {
-        Command::Acknowledge => code::ACKNOWLEDGE,
-        Command::Read { .. } => code::READ,
-        Command::Write { .. } => code::WRITE,
-        Command::Login { .. } => code::LOGIN,
-        Command::Assign => code::ASSIGN,
-        Command::Lock => code::LOCK,
-        Command::Unlock => code::UNLOCK,
-        Command::Clear => code::CLEAR,
-        Command::Logout { .. } => code::LOGOUT,
+impl From<Command> for Code {
+    ghost from_gives = { λ command code. byte_of code ≡ code_of command };
+
+    fn from(command: Command) -> Code {
+        match command {
+            Command::Acknowledge => Code::Acknowledge,
+            Command::Read { .. } => Code::Read,
+            Command::Write { .. } => Code::Write,
+            Command::Login { .. } => Code::Login,
+            Command::Assign => Code::Assign,
+            Command::Lock => Code::Lock,
+            Command::Unlock => Code::Unlock,
+            Command::Clear => Code::Clear,
+            Command::Logout { .. } => Code::Logout,
+        }
     }
 }
 
+// The length of the frame of q.
 pub fn length_of(q: Request) -> usize
     ensures { result ≡ length (frame_of q) }
 {
-    let command = q.command;
-    code::frame_length(code_of(command))
-}
-
-fn write_code(buffer: &mut [u8], code: u8)
-    requires { 1 ≤ length buffer.old }
-    ensures { buffer.new ≡ over (code ∷ []) buffer.old }
-{
-    buffer[0] = code;
+    Code::from(q.command).frame_length()
 }
 
 // dtn 0, src, dsk, trk (2), sec, vli.
-fn write_address(buffer: &mut [u8], code: u8, src: u8, address: Address)
+fn put_address(buffer: &mut [u8], src: u8, address: Address)
     requires { 8 ≤ length buffer.old }
-    ensures { buffer.new ≡ over (code ∷ address_fields src address) buffer.old }
+    ensures { buffer.new ≡ put_in buffer.old 1 (address_fields src address) }
 {
-    let track = address.track.0;
-    let low = (track % 256) as u8;
-    let high = (track / 256 % 256) as u8;
+    let [low, high] = address.track.0.to_le_bytes();
     let partition = address.partition.0;
     let sector = address.sector.0;
     let volume = address.volume.0;
-    let frame = [code, 0, src, partition, low, high, sector, volume];
-    rows::put(buffer, 0, &frame);
+    rows::put(buffer, 1, &[0, src, partition, low, high, sector, volume]);
 }
 
 // Name and password.
-fn write_named(buffer: &mut [u8], code: u8, q: Request)
+fn put_named(buffer: &mut [u8], q: Request)
     requires { 15 ≤ length buffer.old }
-    ensures { buffer.new ≡ over (code ∷ named_fields q) buffer.old }
+    ensures { buffer.new ≡ put_in buffer.old 1 (named_fields q) }
 {
-    let name = q.name;
-    let password = q.password;
-    write_code(buffer, code);
-    rows::put(buffer, 1, &name);
-    rows::put(buffer, 9, &password);
+    rows::put(buffer, 1, &q.name);
+    rows::put(buffer, 9, &q.password);
 }
 
-fn write_login(buffer: &mut [u8], q: Request, product: u8)
-    requires { 20 ≤ length buffer.old }
-    ensures { buffer.new ≡ over (LOGIN ∷ login_fields q product) buffer.old }
+// The fields that stand after the code.
+fn put_fields(buffer: &mut [u8], q: Request)
+    requires { length (frame_of q) ≤ length buffer.old }
+    ensures { buffer.new ≡ put_in buffer.old 1 (fields_of q.command q) }
 {
-    let serial = q.serial;
-    let last = [product];
-    write_named(buffer, code::LOGIN, q);
-    rows::put(buffer, 15, &serial);
-    rows::put(buffer, 19, &last);
+    match q.command {
+        Command::Acknowledge => {}
+        Command::Read { src, address } => put_address(buffer, src, address),
+        Command::Write { src, address } => put_address(buffer, src, address),
+        Command::Login { product } => {
+            put_named(buffer, q);
+            rows::put(buffer, 15, &q.serial);
+            rows::put(buffer, 19, &[product]);
+        }
+        Command::Assign => put_named(buffer, q),
+        Command::Lock => terms::put_string(buffer, 1, q.string),
+        Command::Unlock => terms::put_string(buffer, 1, q.string),
+        Command::Clear => {}
+        Command::Logout { src } => rows::put(buffer, 1, &[src]),
+    }
 }
 
-// The lock string, with the bytes after its length.
-fn write_string(buffer: &mut [u8], code: u8, s: LockString)
-    requires { 15 ≤ length buffer.old }
-    ensures { buffer.new ≡ over (code ∷ string_bytes s) buffer.old }
-{
-    let head = [code];
-    rows::put(buffer, 0, &head);
-    terms::put_string(buffer, 1, s);
-}
-
-fn write_logout(buffer: &mut [u8], src: u8)
-    requires { 2 ≤ length buffer.old }
-    ensures { buffer.new ≡ over (LOGOUT ∷ src ∷ []) buffer.old }
-{
-    let frame = [code::LOGOUT, src];
-    rows::put(buffer, 0, &frame);
-}
-
+// The code, and the fields after it.
 pub fn write_frame(buffer: &mut [u8], q: Request)
     requires { length (frame_of q) ≤ length buffer.old }
     ensures { buffer.new ≡ over (frame_of q) buffer.old }
 {
-    let command = q.command;
-    match command {
-        Command::Acknowledge => write_code(buffer, code::ACKNOWLEDGE),
-        Command::Read { src, address } => write_address(buffer, code::READ, src, address),
-        Command::Write { src, address } => write_address(buffer, code::WRITE, src, address),
-        Command::Login { product } => write_login(buffer, q, product),
-        Command::Assign => write_named(buffer, code::ASSIGN, q),
-        Command::Lock => write_string(buffer, code::LOCK, q.string),
-        Command::Unlock => write_string(buffer, code::UNLOCK, q.string),
-        Command::Clear => write_code(buffer, code::CLEAR),
-        Command::Logout { src } => write_logout(buffer, src),
-    }
+    rows::put(buffer, 0, &[u8::from(Code::from(q.command))]);
+    put_fields(buffer, q);
 }

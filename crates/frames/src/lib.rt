@@ -1,5 +1,5 @@
 // Request frames: the data part that a station sends, without user number, check or flags. Reading takes any bytes,
-// writing any request and any buffer; each answers with the refusal number, 0 for none.
+// writing any request and any buffer; each may refuse.
 #![tactic(auto)]
 
 pub mod code;
@@ -7,11 +7,13 @@ mod compose;
 mod parse;
 
 ghost use Rattle.std.specs.Prelude.{length};
-ghost use Rattle.rows.specs.Outcomes.{Gives, Leaves};
+ghost use Rattle.refusals.specs.Outcomes.{GivesUnless, LeavesUnless};
 ghost use Rattle.frames.specs.Reading.{reading_of};
 ghost use Rattle.frames.specs.Writing.{written_of, buffer_after};
 
+pub use code::Code;
 pub use parse::plain;
+use refusals::Refusal;
 use terms::{Address, LockString};
 
 // A command with its plain numbers. `src` is the source station number.
@@ -39,44 +41,23 @@ pub struct Request {
     pub string: LockString,
 }
 
-// What reading gives: a refusal and nothing of a request, or 0 and the request.
-#[derive(Clone, Copy)]
-pub struct Reading {
-    pub refusal: u8,
-    pub request: Request,
-}
-
-// What writing gives: a refusal and 0, or 0 and the length of the frame.
-#[derive(Clone, Copy)]
-pub struct Written {
-    pub refusal: u8,
-    pub length: usize,
-}
-
 // Reads a frame: 1 empty, 3 unknown code, 4 wrong length, 6 dtn not 0.
-pub fn read(frame: &[u8]) -> Reading
-    ensures { Gives (reading_of frame.now) result }
+pub fn read(frame: &[u8]) -> Result<Request, Refusal>
+    ensures { GivesUnless (reading_of frame.now).refusal (reading_of frame.now).request result }
 {
-    let refusal = parse::refusal_of(frame);
-    if refusal == 0 {
-        let request = parse::request_of(frame);
-        return Reading { refusal, request };
-    }
-    let request = parse::plain(Command::Acknowledge);
-    Reading { refusal, request }
+    let code = parse::code_of(frame)?;
+    Ok(parse::request_of(code, frame))
 }
 
-// Writes the frame of q at the start of the buffer: 13 where the buffer is shorter, and then nothing is written.
-pub fn write(q: Request, buffer: &mut [u8]) -> Written
-    ensures { Leaves (written_of q (length buffer.old)) (buffer_after q buffer.old) result buffer.new }
+// Writes the frame of q at the start of the buffer, and gives its length: 13 where the buffer is shorter, and then nothing
+// is written.
+pub fn write(q: Request, buffer: &mut [u8]) -> Result<usize, Refusal>
+    ensures { LeavesUnless (written_of q (length buffer.old)).refusal (written_of q (length buffer.old)).length (buffer_after q buffer.old) result buffer.new }
 {
     let length = compose::length_of(q);
     if buffer.len() < length {
-        return Written {
-            refusal: 13,
-            length: 0,
-        };
+        return Err(Refusal::ShortBuffer);
     }
     compose::write_frame(buffer, q);
-    Written { refusal: 0, length }
+    Ok(length)
 }

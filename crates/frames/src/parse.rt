@@ -1,30 +1,31 @@
 // Reading a frame: what it is refused with, and the request of one that is not refused.
 ghost use Rattle.std.specs.Prelude.{◌≡◌, ◌≤◌, length};
 ghost use Rattle.rows.specs.Outcomes.{Gives};
+ghost use Rattle.frames.specs.Codes.{byte_of};
 ghost use Rattle.frames.specs.Requests.{plain as plain_of};
-ghost use Rattle.frames.specs.Reading.{refusal_of, address_in, named_in, login_in, string_request, request_in};
+ghost use Rattle.frames.specs.Reading.{«code» as code_in, refusal_of, address_in, named_in, string_request, request_in};
+ghost use Rattle.frames.specs.Inner.{Tests};
 
-use crate::{Command, Request, code};
+use crate::{Code, Command, Request};
+use refusals::Refusal;
+use rows::LowFirst;
 use terms::{Address, LockString, Partition, Sector, Track, Volume};
 
-pub fn refusal_of(frame: &[u8]) -> u8
-    ensures { result ≡ refusal_of frame.now }
+// The code of a frame that is not refused.
+pub fn code_of(frame: &[u8]) -> Result<Code, Refusal>
+    ensures { Tests frame.now result }
 {
-    if frame.len() == 0 {
-        return 1;
+    if frame.is_empty() {
+        return Err(Refusal::EmptyFrame);
     }
-    let code = frame[0];
-    let n = code::frame_length(code);
-    if n == 0 {
-        return 3;
+    let code = Code::try_from(frame[0])?;
+    if frame.len() != code.frame_length() {
+        return Err(Refusal::WrongLength);
     }
-    if frame.len() != n {
-        return 4;
+    if code.has_address() && frame[1] != 0 {
+        return Err(Refusal::WrongDtn);
     }
-    if !code::has_address(code) {
-        return 0;
-    }
-    if frame[1] == 0 { 0 } else { 6 }
+    Ok(code)
 }
 
 // The request of a command, with all byte fields zero.
@@ -49,7 +50,7 @@ fn address_of(frame: &[u8]) -> Address
     ensures { result ≡ address_in frame.now }
 {
     let partition = Partition(frame[3]);
-    let track = Track(rows::two_at(frame, 4));
+    let track = Track(u16::low_first_at(frame, 4));
     let sector = Sector(frame[6]);
     let volume = Volume(frame[7]);
     Address {
@@ -65,23 +66,11 @@ fn named(command: Command, frame: &[u8]) -> Request
     requires { 15 ≤ length frame.now }
     ensures { result ≡ named_in command frame.now }
 {
-    let name = rows::eight_of(frame, 1);
-    let password = rows::six_of(frame, 9);
-    let mut q = plain(command);
-    q.name = name;
-    q.password = password;
-    q
-}
-
-fn login(frame: &[u8]) -> Request
-    requires { 20 ≤ length frame.now }
-    ensures { result ≡ login_in frame.now }
-{
-    let product = frame[19];
-    let serial = rows::four_of(frame, 15);
-    let mut q = named(Command::Login { product }, frame);
-    q.serial = serial;
-    q
+    Request {
+        name: rows::array_at(frame, 1),
+        password: rows::array_at(frame, 9),
+        ..plain(command)
+    }
 }
 
 // The lock string, with the bytes after its length.
@@ -89,33 +78,35 @@ fn with_string(command: Command, frame: &[u8]) -> Request
     requires { 15 ≤ length frame.now }
     ensures { result ≡ string_request command frame.now }
 {
-    let string = terms::string_at(frame, 1);
-    let mut q = plain(command);
-    q.string = string;
-    q
+    Request {
+        string: terms::string_at(frame, 1),
+        ..plain(command)
+    }
 }
 
-// The request of a frame that is not refused.
-pub fn request_of(frame: &[u8]) -> Request
-    requires { refusal_of frame.now ≡ 0 }
+// The request of a frame that is not refused, by its code.
+pub fn request_of(code: Code, frame: &[u8]) -> Request
+    requires { (refusal_of frame.now ≡ 0) × (code_in frame.now ≡ byte_of code) }
     ensures { result ≡ request_in frame.now }
 {
-    let code = frame[0];
     match code {
-        code::READ => plain(Command::Read {
+        Code::Acknowledge => plain(Command::Acknowledge),
+        Code::Read => plain(Command::Read {
             src: frame[2],
             address: address_of(frame),
         }),
-        code::WRITE => plain(Command::Write {
+        Code::Write => plain(Command::Write {
             src: frame[2],
             address: address_of(frame),
         }),
-        code::LOGIN => login(frame),
-        code::ASSIGN => named(Command::Assign, frame),
-        code::LOCK => with_string(Command::Lock, frame),
-        code::UNLOCK => with_string(Command::Unlock, frame),
-        code::CLEAR => plain(Command::Clear),
-        code::LOGOUT => plain(Command::Logout { src: frame[1] }),
-        _ => plain(Command::Acknowledge),
+        Code::Login => Request {
+            serial: rows::array_at(frame, 15),
+            ..named(Command::Login { product: frame[19] }, frame)
+        },
+        Code::Assign => named(Command::Assign, frame),
+        Code::Lock => with_string(Command::Lock, frame),
+        Code::Unlock => with_string(Command::Unlock, frame),
+        Code::Clear => plain(Command::Clear),
+        Code::Logout => plain(Command::Logout { src: frame[1] }),
     }
 }

@@ -1,21 +1,21 @@
 -- Contracts of the functions inside: tables, bits on their way out and in. No rule names these words.
-use Rattle.std.specs.Prelude.{ℕ, ◌+◌, ◌-◌, ◌*◌, ◌/◌, ◌%◌, ◌^◌, ◌<◌, ◌≤◌, ◌≡◌, Bool, true, false, cond, ◌&&◌, List, [], ◌∷◌, ◌++◌, eqb, leb, length, take, drop, get_or}
+use Rattle.std.specs.Prelude.{ℕ, ◌+◌, ◌-◌, ◌*◌, ◌/◌, ◌%◌, ◌^◌, ◌<◌, ◌≤◌, ◌≡◌, Bool, true, false, cond, ◌&&◌, List, [], ◌∷◌, ◌++◌, eqb, leb, length, take, drop, get_or, Result, Ok, Err}
+use Rattle.refusals.specs.declared.Refusal.{Refusal}
+use Rattle.refusals.specs.Refusals.{number}
 use Rattle.rows.specs.Words.{build}
 use Rattle.framing.specs.Bits.{bits_of, to_bits, bit, value, packed}
 use Rattle.framing.specs.Zeros.{with_zeros, without_zeros}
 use Rattle.framing.specs.Check.{check_from}
-use Rattle.framing.specs.Reading.{Scan, ended, sevenOnes, stopped, scan, line_refusal, content_in}
-use Rattle.framing.specs.declared.zeros.Run.{Run}
-use Rattle.framing.specs.declared.zeros.Taken.{Taken}
-use Rattle.framing.specs.declared.send.Pen.{Pen}
-use Rattle.framing.specs.declared.send.Tally.{Tally}
-use Rattle.framing.specs.declared.take.Taker.{Taker}
+use Rattle.framing.specs.Reading.{stopped, scan, scan_refusal, line_refusal, content_in}
+use Rattle.framing.specs.declared.runs.Run.{Run}
+use Rattle.framing.specs.declared.runs.Taken.{Taken}
+use Rattle.framing.specs.declared.runs.Pen.{Pen}
+use Rattle.framing.specs.declared.runs.Tally.{Tally}
+use Rattle.framing.specs.declared.runs.Taker.{Taker}
+use Rattle.framing.specs.declared.runs.Passed.{Passed}
+use Rattle.framing.specs.declared.runs.Span.{Span}
 use Rattle.framing.specs.declared.take.Summed.{Summed}
-use Rattle.framing.specs.declared.receive.Passed.{Passed}
-use Rattle.framing.specs.declared.receive.Found.{Found}
-use Rattle.framing.specs.declared.receive.Found.TheVariants.{Ended, Seven, Raw}
 use Rattle.framing.specs.declared.Content.{Content}
-use Rattle.framing.specs.declared.Content.TheVariants.{Refused, Between}
 
 -- the ones that stand last: of bits with their zeros put in, and of bits whose zeros are taken out
 unfoldable pub ones_after : ℕ → List Bool → ℕ
@@ -54,13 +54,11 @@ taken_table = build taken_entry 96
 -- bits after k ones, with their zeros put in
 pub record PutIn (k : ℕ) (bs : List Bool) (r : Run) : Type 0 where
   pub bits : bits_of r.count r.bits ≡ with_zeros k bs
-  pub small : r.bits < 2 ^ r.count
   pub ones : r.ones ≡ ones_after k bs
 
 -- bits after k ones, with their zeros taken out
 pub record TakenOut (k : ℕ) (bs : List Bool) (r : Taken) : Type 0 where
   pub bits : bits_of r.count r.bits ≡ without_zeros k bs
-  pub small : r.bits < 2 ^ r.count
   pub ones : r.ones ≡ run_after k bs
   pub sixths : r.sixths ≡ sixths k bs
 
@@ -76,11 +74,6 @@ standing out p = to_bits (take p.at out) ++ bits_of p.held p.acc
 unfoldable pub place : Pen → ℕ
 place p = 8 * p.at + p.held
 
-pub record Sound (room : ℕ) (p : Pen) : Type 0 where
-  pub few : p.held < 8
-  pub small : p.acc < 2 ^ p.held
-  pub inside : p.at ≤ room
-
 -- each is a byte
 abbrev pub EachByte : List ℕ → Type 0
 EachByte l = (i : ℕ) → get_or l i 0 < 2 ^ 8
@@ -90,7 +83,7 @@ pub record Lays (out : List ℕ) (p : Pen) (bs : List Bool) (out' : List ℕ) (p
   pub bits : standing out' p' ≡ standing out p ++ bs
   pub rest : drop p'.at out' ≡ drop p'.at out
   pub further : p.at ≤ p'.at
-  pub sound : Sound (length out) p'
+  pub inside : p'.at ≤ length out
 
 -- bits sent: laid with their zeros
 pub record Sends (out : List ℕ) (p : Pen) (bs : List Bool) (out' : List ℕ) (p' : Pen) : Type 0 where
@@ -105,16 +98,10 @@ whole_byte at to = eqb (at % 8) 0 && leb 8 (to - at)
 unfoldable pub coming : List Bool → ℕ → Taker → List Bool
 coming b to t = bits_of t.held t.acc ++ without_zeros t.ones (drop t.at (take to b))
 
-pub record Ready (to : ℕ) (t : Taker) : Type 0 where
-  pub inside : t.at ≤ to
-  pub few : t.held < 16
-  pub small : t.acc < 2 ^ t.held
-  pub run : t.ones ≤ 5
-
 -- a taker that went on and gives the same bits
 pub record Goes (b : List Bool) (to : ℕ) (t t' : Taker) : Type 0 where
   pub same : coming b to t' ≡ coming b to t
-  pub ready : Ready to t'
+  pub inside : t'.at ≤ to
   pub further : t.at ≤ t'.at
 
 -- all whole bytes of the bits c: how many, their register, and how many bits are left
@@ -127,30 +114,22 @@ pub record Sums (c : List Bool) (r : Summed) : Type 0 where
 pub record Passes (b : List Bool) (n at : ℕ) (r : Passed) : Type 0 where
   pub order : at ≤ r.at
   pub inside : r.at ≤ n
-  pub few : r.ones ≤ 5
   pub rest : (since : List Bool) → scan 0 since (drop at (take n b)) ≡ scan r.ones (since ++ drop at (take r.at b)) (drop r.at (take n b))
 
--- where the search for the closing flag stopped: two places stand for the bits between them
-unfoldable pub scan_of : List Bool → Found → Scan
-scan_of b Ended = ended
-scan_of b Seven = sevenOnes
-scan_of b (Raw from to) = stopped (drop from (take to b))
-
-unfoldable pub Within : ℕ → Found → Type 0
-Within n Ended = Unit
-Within n Seven = Unit
-Within n (Raw from to) = (from ≤ to) × (to ≤ n)
+-- where the search for the closing flag stopped: at the end of some bits, or refused
+unfoldable pub Stops : List Bool → ℕ → Result Span Refusal → Type 0
+Stops b n (Ok span) = (scan 0 [] (drop 8 (take n b)) ≡ stopped (drop span.from (take span.to b))) × (span.to ≤ n)
+Stops b n (Err r) = scan_refusal (scan 0 [] (drop 8 (take n b))) ≡ number r
 
 -- the content that stands between two places without its zeros: its bytes are data and three more
 pub record Holds (s : List ℕ) (n from to len : ℕ) : Type 0 where
   pub good : line_refusal s n ≡ 0
   pub bits : content_in s n ≡ packed (len + 3) (without_zeros 0 (drop from (take to (to_bits s))))
   pub long : length (without_zeros 0 (drop from (take to (to_bits s)))) ≡ 8 * (len + 3)
-  pub order : from ≤ to
   pub inside : to ≤ 8 * length s
   pub least : 1 ≤ len
   pub most : len ≤ 1024
 
-unfoldable pub Measures : List ℕ → ℕ → Content → Type 0
-Measures s n (Refused k) = (line_refusal s n ≡ k) × (k ≡ 0 → ⊥)
-Measures s n (Between from to length) = Holds s n from to length
+unfoldable pub Measures : List ℕ → ℕ → Result Content Refusal → Type 0
+Measures s n (Ok c) = Holds s n c.span.from c.span.to c.length
+Measures s n (Err r) = line_refusal s n ≡ number r

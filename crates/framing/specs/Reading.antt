@@ -1,14 +1,14 @@
 -- Reading a frame: where its bits stop, the refusals in their order, and what is given. s are the bytes lent, n the bit count.
-use Rattle.std.specs.Prelude.{ℕ, ◌+◌, ◌-◌, ◌*◌, ◌/◌, ◌%◌, Bool, true, false, cond, not, ◌&&◌, List, [], ◌∷◌, ◌++◌, eqb, leb, ltb, length, take, drop, get_or}
-use Rattle.rows.specs.Outcomes.{Leaves}
+use Rattle.std.specs.Prelude.{ℕ, ◌+◌, ◌-◌, ◌*◌, ◌/◌, ◌%◌, Bool, true, false, cond, not, ◌&&◌, List, [], ◌∷◌, ◌++◌, Result, eqb, leb, ltb, length, take, drop, get_or}
+use Rattle.refusals.specs.declared.Refusal.{Refusal}
+use Rattle.refusals.specs.Outcomes.{LeavesUnless}
 use Rattle.rows.specs.Rows.{over, part}
 use Rattle.rows.specs.Numbers.{low_first}
 use Rattle.framing.specs.Bits.{to_bits, pack}
 use Rattle.framing.specs.Zeros.{without_zeros}
 use Rattle.framing.specs.Check.{check}
 use Rattle.framing.specs.Frame.{flag}
-use Rattle.framing.specs.declared.Reading.{Reading}
-use Rattle.framing.specs.declared.Reading.TheVariants.{Refused, Frame}
+use Rattle.framing.specs.declared.Heading.{Heading}
 
 -- bits start with other bits
 unfoldable pub starts : List Bool → List Bool → Bool
@@ -79,11 +79,11 @@ user_in s n = get_or (content_in s n) 0 0
 unfoldable pub data_in : List ℕ → ℕ → List ℕ
 data_in s n = data_of (content_in s n)
 
--- refused with k; or, with 0 for none, user number and length of the data
-unfoldable pub read_unless : ℕ → List ℕ → ℕ → Reading
-read_unless k s n = cond (eqb k 0) (Frame (user_in s n) (length (data_in s n))) (Refused k)
+-- what is told of a frame that is not refused: user number and length of the data
+unfoldable pub heading_in : List ℕ → ℕ → Heading
+heading_in s n = record { user = user_in s n; length = length (data_in s n) }
 
--- and bytes p at the start of the buffer b, those after them as they were; or all as it was
+-- refused with k, and the buffer as it was; or, with 0 for none, bytes p at the start of the buffer b, and those after them as they were
 unfoldable pub put_unless : ℕ → List ℕ → List ℕ → List ℕ
 put_unless k p b = cond (eqb k 0) (over p b) b
 
@@ -91,9 +91,9 @@ put_unless k p b = cond (eqb k 0) (over p b) b
 unfoldable pub read_refusal : List ℕ → ℕ → List ℕ → ℕ
 read_refusal s n b = cond (eqb (line_refusal s n) 0) (cond (ltb (length b) (length (data_in s n))) 13 0) (line_refusal s n)
 
-abbrev pub Reads : List ℕ → ℕ → List ℕ → Reading → List ℕ → Type 0
-Reads s n b = Leaves (read_unless (read_refusal s n b) s n) (put_unless (read_refusal s n b) (data_in s n) b)
+abbrev pub Reads : List ℕ → ℕ → List ℕ → Result Heading Refusal → List ℕ → Type 0
+Reads s n b = LeavesUnless (read_refusal s n b) (heading_in s n) (put_unless (read_refusal s n b) (data_in s n) b)
 
 -- reading the start of the data, as much as the buffer holds
-abbrev pub ReadsStart : List ℕ → ℕ → List ℕ → Reading → List ℕ → Type 0
-ReadsStart s n b = Leaves (read_unless (line_refusal s n) s n) (put_unless (line_refusal s n) (take (length b) (data_in s n)) b)
+abbrev pub ReadsStart : List ℕ → ℕ → List ℕ → Result Heading Refusal → List ℕ → Type 0
+ReadsStart s n b = LeavesUnless (line_refusal s n) (heading_in s n) (put_unless (line_refusal s n) (take (length b) (data_in s n)) b)

@@ -1,9 +1,9 @@
-// The 16-bit frame check of RFC 1662, by a table of 256 numbers. The table is lent, so that one copy of it serves a whole frame.
+// The 16-bit frame check of RFC 1662, by a table of 256 numbers.
 ghost use Rattle.std.specs.Prelude.{◌≡◌, ◌∷◌};
-ghost use Rattle.framing.specs.Check.{check_table, check_byte, check_from, «check» as check_of};
+ghost use Rattle.framing.specs.Check.{check_byte, check_from, «check» as check_of};
 
-// Eight shift steps of each index.
-const TABLE: [u16; 256] = [
+// What is added to the register for each value of its low byte: eight shift steps of each index.
+static TABLE: [u16; 256] = [
     0x0000, 0x1189, 0x2312, 0x329b, 0x4624, 0x57ad, 0x6536, 0x74bf, 0x8c48, 0x9dc1, 0xaf5a, 0xbed3,
     0xca6c, 0xdbe5, 0xe97e, 0xf8f7, 0x1081, 0x0108, 0x3393, 0x221a, 0x56a5, 0x472c, 0x75b7, 0x643e,
     0x9cc9, 0x8d40, 0xbfdb, 0xae52, 0xdaed, 0xcb64, 0xf9ff, 0xe876, 0x2102, 0x308b, 0x0210, 0x1399,
@@ -28,32 +28,21 @@ const TABLE: [u16; 256] = [
     0x3de3, 0x2c6a, 0x1ef1, 0x0f78,
 ];
 
-// What is added to the register for each value of its low byte.
-pub fn table() -> [u16; 256]
-    ensures { result ≡ check_table }
-{
-    TABLE
-}
-
 // The register after one byte more.
-pub fn add_byte(table: &[u16; 256], register: u16, byte: u8) -> u16
-    requires { table.now ≡ check_table }
+pub fn add_byte(register: u16, byte: u8) -> u16
     ensures { result ≡ check_byte register byte }
 {
-    let low = (register ^ byte as u16) & 255;
-    (register >> 8) ^ table[low as usize]
+    let low = (register ^ u16::from(byte)) & 255;
+    (register >> 8) ^ TABLE[usize::from(low)]
 }
 
 // The register after bytes.
-fn add_bytes(table: &[u16; 256], start: u16, bytes: &[u8]) -> u16
-    requires { table.now ≡ check_table }
+fn add_bytes(start: u16, bytes: &[u8]) -> u16
     ensures { result ≡ check_from start bytes.now }
 {
     let mut register = start;
-    let mut i = 0;
-    while i < bytes.len() {
-        register = add_byte(table, register, bytes[i]);
-        i += 1;
+    for byte in bytes {
+        register = add_byte(register, *byte);
     }
     register
 }
@@ -62,6 +51,5 @@ fn add_bytes(table: &[u16; 256], start: u16, bytes: &[u8]) -> u16
 pub fn of_frame(user: u8, data: &[u8]) -> u16
     ensures { result ≡ check_of (user ∷ «data».now) }
 {
-    let table = table();
-    65535 - add_bytes(&table, add_byte(&table, 65535, user), data)
+    65535 - add_bytes(add_byte(65535, user), data)
 }

@@ -1,26 +1,12 @@
 // Receiving: the opening flag, and where the frame stops.
-ghost use Rattle.std.specs.Prelude.{◌≡◌, ◌*◌, ◌≤◌, cond, ◌&&◌, [], eqb, ltb, length, take as firsts, drop};
+ghost use Rattle.std.specs.Prelude.{◌≡◌, ◌*◌, ◌≤◌, cond, ◌&&◌, eqb, ltb, length};
 ghost use Rattle.framing.specs.Bits.{to_bits};
-ghost use Rattle.framing.specs.Reading.{«opens» as does_open, scan};
-ghost use Rattle.framing.specs.Inner.{taken_table, Passes, scan_of, Within};
+ghost use Rattle.framing.specs.Reading.{«opens» as does_open};
+ghost use Rattle.framing.specs.Inner.{Passes, Stops};
 
+use crate::runs::{Passed, Span};
 use crate::{take, zeros};
-
-// Where the search stopped.
-#[derive(Clone, Copy)]
-pub enum Found {
-    Ended,
-    Seven,
-    // The bits from the first place to before the second.
-    Raw(usize, usize),
-}
-
-// A place, and how many ones stand before it.
-#[derive(Clone, Copy)]
-pub struct Passed {
-    pub at: usize,
-    pub ones: usize,
-}
+use refusals::Refusal;
 
 // A bit count within the bytes, and a flag at the first bit.
 pub fn opens(s: &[u8], n: usize) -> bool
@@ -36,18 +22,18 @@ pub fn opens(s: &[u8], n: usize) -> bool
 }
 
 // Goes from after a zero over whole bytes in which no sixth one stands.
-fn quiet(table: &[u16; 96], s: &[u8], n: usize, from: usize) -> Passed
-    requires { (table.now ≡ taken_table) × (n ≤ 8 * length s.now) × (from ≤ n) }
+fn quiet(s: &[u8], n: usize, from: usize) -> Passed
+    requires { (n ≤ 8 * length s.now) × (from ≤ n) }
     ensures { Passes (to_bits s.now) n from result }
 {
     let mut at = from;
     let mut ones: usize = 0;
     while take::is_whole(at, n) {
-        let taken = zeros::byte_taken(table, ones, s[at / 8]);
+        let taken = zeros::byte_taken(ones, s[at / 8]);
         if taken.sixths != 0 {
             return Passed { at, ones };
         }
-        at = at + 8;
+        at += 8;
         ones = taken.ones;
     }
     Passed { at, ones }
@@ -71,32 +57,32 @@ fn next_start(ones: usize, from: usize, at: usize) -> usize
     if ones == 6 { at } else { from }
 }
 
-// Looks for the closing flag.
-pub fn find(s: &[u8], n: usize) -> Found
+// Looks for the closing flag: 18, 19, or the bits before it.
+pub fn find(s: &[u8], n: usize) -> Result<Span, Refusal>
     requires { (8 ≤ n) × (n ≤ 8 * length s.now) }
-    ensures { (scan_of (to_bits s.now) result ≡ scan 0 [] (drop 8 (firsts n (to_bits s.now)))) × Within n result }
+    ensures { Stops (to_bits s.now) n result }
 {
-    let table = zeros::taken_table();
     let mut from = 8;
     let mut at = 8;
     let mut ones: usize = 0;
     while at < n {
         let bit = take::bit_at(s, at);
-        at = at + 1;
+        at += 1;
         if bit {
             if ones == 6 {
-                return Found::Seven;
+                return Err(Refusal::SevenOnes);
             }
-            ones = ones + 1;
+            ones += 1;
         } else {
             if closes(ones, at - from) {
-                return Found::Raw(from, at - 8);
+                let to = at - 8;
+                return Ok(Span { from, to });
             }
             from = next_start(ones, from, at);
-            let q = quiet(&table, s, n, at);
+            let q = quiet(s, n, at);
             at = q.at;
             ones = q.ones;
         }
     }
-    Found::Ended
+    Err(Refusal::NoFlag)
 }

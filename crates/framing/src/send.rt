@@ -4,30 +4,14 @@ ghost use Rattle.rows.specs.Rows.{over};
 ghost use Rattle.framing.specs.Bits.{bits_of, to_bits, pack};
 ghost use Rattle.framing.specs.Zeros.{with_zeros};
 ghost use Rattle.framing.specs.Frame.{flag, framed};
-ghost use Rattle.framing.specs.Inner.{put_table, place, standing, Sound, EachByte, Lays, Sends, Counts};
+ghost use Rattle.framing.specs.Inner.{place, standing, EachByte, Lays, Sends, Counts};
 
+use crate::runs::{Pen, Run, Tally};
 use crate::zeros;
-use crate::zeros::Run;
-
-// How many bytes are written; bits that do not fill a byte yet, and how many; how many ones were sent last.
-#[derive(Clone, Copy)]
-pub struct Pen {
-    pub at: usize,
-    pub acc: u32,
-    pub held: usize,
-    pub ones: usize,
-}
-
-// Bits counted, and how many ones stand last.
-#[derive(Clone, Copy)]
-pub struct Tally {
-    pub bits: usize,
-    pub ones: usize,
-}
 
 // Lays eight bits at most.
 fn put(out: &mut [u8], pen: Pen, run: Run) -> Pen
-    requires { Sound (length out.old) pen × (run.count ≤ 8) × (run.bits < 2 ^ run.count) × (place pen + run.count ≤ 8 * length out.old) }
+    requires { (place pen + run.count ≤ 8 * length out.old) }
     ensures { Lays out.old pen (bits_of run.count run.bits) out.new result × (result.ones ≡ run.ones) }
 {
     let acc = pen.acc + zeros::raised(run.bits, pen.held);
@@ -51,85 +35,71 @@ fn put(out: &mut [u8], pen: Pen, run: Run) -> Pen
 }
 
 // Sends half a byte.
-fn put_half(table: &[u16; 80], out: &mut [u8], pen: Pen, half: u8) -> Pen
-    requires { (table.now ≡ put_table) × Sound (length out.old) pen × (pen.ones < 5) × (half < 16) × (place pen + length (with_zeros pen.ones (bits_of 4 half)) ≤ 8 * length out.old) }
+fn put_half(out: &mut [u8], pen: Pen, half: u8) -> Pen
+    requires { (half < 16) × (place pen + length (with_zeros pen.ones (bits_of 4 half)) ≤ 8 * length out.old) }
     ensures { Sends out.old pen (bits_of 4 half) out.new result }
 {
-    let run = zeros::put_in(table, pen.ones, half);
+    let run = zeros::put_in(pen.ones, half);
     put(out, pen, run)
 }
 
 // Sends a byte.
-fn put_byte(table: &[u16; 80], out: &mut [u8], pen: Pen, byte: u8) -> Pen
-    requires { (table.now ≡ put_table) × Sound (length out.old) pen × (pen.ones < 5) × (place pen + length (with_zeros pen.ones (bits_of 8 byte)) ≤ 8 * length out.old) }
+fn put_byte(out: &mut [u8], pen: Pen, byte: u8) -> Pen
+    requires { (place pen + length (with_zeros pen.ones (bits_of 8 byte)) ≤ 8 * length out.old) }
     ensures { Sends out.old pen (bits_of 8 byte) out.new result }
 {
-    let low = put_half(table, out, pen, byte % 16);
-    put_half(table, out, low, byte / 16)
+    let low = put_half(out, pen, byte % 16);
+    put_half(out, low, byte / 16)
 }
 
 // Sends bytes.
-fn put_bytes(table: &[u16; 80], out: &mut [u8], pen: Pen, bytes: &[u8]) -> Pen
-    requires { (table.now ≡ put_table) × Sound (length out.old) pen × (pen.ones < 5) × (place pen + length (with_zeros pen.ones (to_bits bytes.now)) ≤ 8 * length out.old) }
+fn put_bytes(out: &mut [u8], pen: Pen, bytes: &[u8]) -> Pen
+    requires { (place pen + length (with_zeros pen.ones (to_bits bytes.now)) ≤ 8 * length out.old) }
     ensures { Sends out.old pen (to_bits bytes.now) out.new result }
 {
     let mut p = pen;
-    let mut i = 0;
-    while i < bytes.len() {
-        p = put_byte(table, out, p, bytes[i]);
-        i += 1;
+    for byte in bytes {
+        p = put_byte(out, p, *byte);
     }
     p
 }
 
 // Sends the two bytes of the check, low byte first.
-fn put_check(table: &[u16; 80], out: &mut [u8], pen: Pen, sum: u16) -> Pen
-    requires { (table.now ≡ put_table) × Sound (length out.old) pen × (pen.ones < 5) × (place pen + length (with_zeros pen.ones (to_bits (sum % 256 ∷ sum / 256 ∷ []))) ≤ 8 * length out.old) }
+fn put_check(out: &mut [u8], pen: Pen, sum: u16) -> Pen
+    requires { (place pen + length (with_zeros pen.ones (to_bits (sum % 256 ∷ sum / 256 ∷ []))) ≤ 8 * length out.old) }
     ensures { Sends out.old pen (to_bits (sum % 256 ∷ sum / 256 ∷ [])) out.new result }
 {
-    let low = put_byte(table, out, pen, (sum % 256) as u8);
-    put_byte(table, out, low, (sum / 256) as u8)
+    let low = put_byte(out, pen, (sum % 256) as u8);
+    put_byte(out, low, (sum / 256) as u8)
 }
 
 // Sends user number, data and check.
 fn put_content(out: &mut [u8], pen: Pen, user: u8, data: &[u8], sum: u16) -> Pen
-    requires { Sound (length out.old) pen × (pen.ones < 5) × (place pen + length (with_zeros pen.ones (to_bits ((user ∷ «data».now) ++ (sum % 256 ∷ sum / 256 ∷ [])))) ≤ 8 * length out.old) }
+    requires { (place pen + length (with_zeros pen.ones (to_bits ((user ∷ «data».now) ++ (sum % 256 ∷ sum / 256 ∷ [])))) ≤ 8 * length out.old) }
     ensures { Sends out.old pen (to_bits ((user ∷ «data».now) ++ (sum % 256 ∷ sum / 256 ∷ []))) out.new result }
 {
-    let table = zeros::put_table();
-    let first = put_byte(&table, out, pen, user);
-    let last = put_bytes(&table, out, first, data);
-    put_check(&table, out, last, sum)
+    let first = put_byte(out, pen, user);
+    let last = put_bytes(out, first, data);
+    put_check(out, last, sum)
 }
 
 // Lays two flags.
 fn put_flags(out: &mut [u8], pen: Pen) -> Pen
-    requires { Sound (length out.old) pen × (place pen + 16 ≤ 8 * length out.old) }
+    requires { (place pen + 16 ≤ 8 * length out.old) }
     ensures { Lays out.old pen (flag ++ flag) out.new result × (result.ones ≡ 0) }
 {
-    let one = put(
-        out,
-        pen,
-        Run {
-            bits: 126,
-            count: 8,
-            ones: 0,
-        },
-    );
-    put(
-        out,
-        one,
-        Run {
-            bits: 126,
-            count: 8,
-            ones: 0,
-        },
-    )
+    let run = Run {
+        bits: 126,
+        count: 8,
+        ones: 0,
+    };
+    let one = put(out, pen, run);
+    put(out, one, run)
 }
 
 // Writes the bits in hand as the last byte.
 fn put_rest(out: &mut [u8], pen: Pen)
-    requires { EachByte out.old × Sound (length out.old) pen × (place pen ≤ 8 * length out.old) }
+    requires { EachByte out.old × (place pen ≤ 8 * length out.old) }
     ensures { out.new ≡ over (pack (standing out.old pen)) out.old }
 {
     if 0 < pen.held {
@@ -156,12 +126,12 @@ pub fn put_frame(out: &mut [u8], user: u8, data: &[u8], sum: u16)
 }
 
 // Counts a byte's bits.
-fn count_byte(table: &[u16; 80], tally: Tally, byte: u8) -> Tally
-    requires { (table.now ≡ put_table) × (tally.ones < 5) × (tally.bits < 2 ^ 32) }
+fn count_byte(tally: Tally, byte: u8) -> Tally
+    requires { (tally.bits < 2 ^ 32) }
     ensures { Counts tally (bits_of 8 byte) result }
 {
-    let low = zeros::put_in(table, tally.ones, byte % 16);
-    let high = zeros::put_in(table, low.ones, byte / 16);
+    let low = zeros::put_in(tally.ones, byte % 16);
+    let high = zeros::put_in(low.ones, byte / 16);
     Tally {
         bits: tally.bits + low.count + high.count,
         ones: high.ones,
@@ -169,15 +139,13 @@ fn count_byte(table: &[u16; 80], tally: Tally, byte: u8) -> Tally
 }
 
 // Counts the bits of bytes.
-fn count_bytes(table: &[u16; 80], tally: Tally, bytes: &[u8]) -> Tally
-    requires { (table.now ≡ put_table) × (tally.ones < 5) × (tally.bits < 2 ^ 16) × (length bytes.now ≤ 1024) }
+fn count_bytes(tally: Tally, bytes: &[u8]) -> Tally
+    requires { (tally.bits < 2 ^ 16) × (length bytes.now ≤ 1024) }
     ensures { Counts tally (to_bits bytes.now) result }
 {
     let mut t = tally;
-    let mut i = 0;
-    while i < bytes.len() {
-        t = count_byte(table, t, bytes[i]);
-        i += 1;
+    for byte in bytes {
+        t = count_byte(t, *byte);
     }
     t
 }
@@ -187,10 +155,9 @@ pub fn count(user: u8, data: &[u8], sum: u16) -> usize
     requires { length «data».now ≤ 1024 }
     ensures { (result ≡ length (framed ((user ∷ «data».now) ++ (sum % 256 ∷ sum / 256 ∷ [])))) × (result < 2 ^ 16) }
 {
-    let table = zeros::put_table();
-    let first = count_byte(&table, Tally { bits: 32, ones: 0 }, user);
-    let last = count_bytes(&table, first, data);
-    let low = count_byte(&table, last, (sum % 256) as u8);
-    let high = count_byte(&table, low, (sum / 256) as u8);
+    let first = count_byte(Tally { bits: 32, ones: 0 }, user);
+    let last = count_bytes(first, data);
+    let low = count_byte(last, (sum % 256) as u8);
+    let high = count_byte(low, (sum / 256) as u8);
     high.bits
 }

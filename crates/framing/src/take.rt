@@ -2,19 +2,10 @@
 ghost use Rattle.std.specs.Prelude.{◌≡◌, ◌+◌, ◌-◌, ◌*◌, ◌/◌, ◌<◌, ◌≤◌, ◌^◌, ◌%◌, false, ◌++◌, length, take, drop, get_or};
 ghost use Rattle.framing.specs.Bits.{to_bits, packed};
 ghost use Rattle.framing.specs.Zeros.{without_zeros};
-ghost use Rattle.framing.specs.Inner.{taken_table, whole_byte, coming, Ready, Goes, Sums};
+ghost use Rattle.framing.specs.Inner.{whole_byte, coming, Goes, Sums};
 
-use crate::zeros::Taken;
+use crate::runs::{Span, Taken, Taker};
 use crate::{fcs, zeros};
-
-// The place of the next bit, and how many ones stand before it; bits in hand, and how many.
-#[derive(Clone, Copy)]
-pub struct Taker {
-    pub at: usize,
-    pub ones: usize,
-    pub acc: u32,
-    pub held: usize,
-}
 
 // Whole bytes, their register, and how many bits are left.
 #[derive(Clone, Copy)]
@@ -45,7 +36,7 @@ pub fn is_whole(at: usize, to: usize) -> bool
 
 // Goes over n bits, of which these were taken.
 fn go_over(t: Taker, n: usize, taken: Taken) -> Taker
-    requires { (t.held < 8) × (t.acc < 2 ^ t.held) × (taken.count ≤ 8) × (taken.bits < 2 ^ taken.count) × (t.at + n < 2 ^ 64) }
+    requires { (t.held < 8) × (t.at + n < 2 ^ 64) }
     ensures { (result.at ≡ t.at + n) × (result.ones ≡ taken.ones) × (result.acc ≡ t.acc + taken.bits * 2 ^ t.held) × (result.held ≡ t.held + taken.count) }
 {
     Taker {
@@ -57,14 +48,14 @@ fn go_over(t: Taker, n: usize, taken: Taken) -> Taker
 }
 
 // Takes the next byte where one stands whole, or the next bit.
-fn step(table: &[u16; 96], s: &[u8], to: usize, t: Taker) -> Taker
-    requires { (table.now ≡ taken_table) × (to ≤ 8 * length s.now) × Ready to t × (t.held < 8) × (t.at < to) }
+fn step(s: &[u8], to: usize, t: Taker) -> Taker
+    requires { (to ≤ 8 * length s.now) × (t.held < 8) × (t.at < to) }
     ensures { Goes (to_bits s.now) to t result × (t.at < result.at) }
 {
     let at = t.at;
     let ones = t.ones;
     if is_whole(at, to) {
-        return go_over(t, 8, zeros::byte_taken(table, ones, s[at / 8]));
+        return go_over(t, 8, zeros::byte_taken(ones, s[at / 8]));
     }
     go_over(t, 1, zeros::bit_taken(ones, bit_at(s, at)))
 }
@@ -90,24 +81,22 @@ fn rest_of(t: Taker) -> Taker
 }
 
 // The sum of all bits between two places.
-pub fn sum(s: &[u8], from: usize, to: usize) -> Summed
-    requires { (from ≤ to) × (to ≤ 8 * length s.now) }
-    ensures { Sums (without_zeros 0 (drop from (take to (to_bits s.now)))) result }
+pub fn sum(s: &[u8], span: Span) -> Summed
+    requires { span.to ≤ 8 * length s.now }
+    ensures { Sums (without_zeros 0 (drop span.from (take span.to (to_bits s.now)))) result }
 {
-    let table = zeros::taken_table();
-    let checks = fcs::table();
     let mut register: u16 = 65535;
     let mut bytes: usize = 0;
     let mut t = Taker {
-        at: from,
+        at: span.from,
         ones: 0,
         acc: 0,
         held: 0,
     };
-    while t.at < to {
-        t = step(&table, s, to, t);
+    while t.at < span.to {
+        t = step(s, span.to, t);
         if 8 <= t.held {
-            register = fcs::add_byte(&checks, register, byte_of(t));
+            register = fcs::add_byte(register, byte_of(t));
             bytes = bytes + 1;
             t = rest_of(t);
         }
@@ -120,45 +109,42 @@ pub fn sum(s: &[u8], from: usize, to: usize) -> Summed
 }
 
 // Goes on until a byte is in hand.
-fn pull(table: &[u16; 96], s: &[u8], to: usize, t: Taker) -> Taker
-    requires { (table.now ≡ taken_table) × (to ≤ 8 * length s.now) × Ready to t × (8 ≤ length (coming (to_bits s.now) to t)) }
+fn pull(s: &[u8], to: usize, t: Taker) -> Taker
+    requires { (to ≤ 8 * length s.now) × (t.at ≤ to) × (8 ≤ length (coming (to_bits s.now) to t)) }
     ensures { Goes (to_bits s.now) to t result × (8 ≤ result.held) }
 {
     let mut r = t;
     while r.held < 8 {
-        r = step(table, s, to, r);
+        r = step(s, to, r);
     }
     r
 }
 
 // Copies the next n bytes to the start of a buffer.
-fn copy(table: &[u16; 96], s: &[u8], to: usize, t: Taker, out: &mut [u8], n: usize)
-    requires { (table.now ≡ taken_table) × (to ≤ 8 * length s.now) × Ready to t × (8 * n ≤ length (coming (to_bits s.now) to t)) × (n ≤ length out.old) }
+fn copy(s: &[u8], to: usize, t: Taker, out: &mut [u8], n: usize)
+    requires { (to ≤ 8 * length s.now) × (t.at ≤ to) × (8 * n ≤ length (coming (to_bits s.now) to t)) × (n ≤ length out.old) }
     ensures { out.new ≡ packed n (coming (to_bits s.now) to t) ++ drop n out.old }
 {
     let mut r = t;
-    let mut i = 0;
-    while i < n {
-        r = pull(table, s, to, r);
-        out[i] = byte_of(r);
+    for byte in &mut out[..n] {
+        r = pull(s, to, r);
+        *byte = byte_of(r);
         r = rest_of(r);
-        i += 1;
     }
 }
 
 // Gives the first byte between two places, and copies the next n.
-pub fn deliver(s: &[u8], from: usize, to: usize, out: &mut [u8], n: usize) -> u8
-    requires { (from ≤ to) × (to ≤ 8 * length s.now) × (8 * (n + 1) ≤ length (without_zeros 0 (drop from (take to (to_bits s.now))))) × (n ≤ length out.old) }
-    ensures { (result ≡ get_or (packed (n + 1) (without_zeros 0 (drop from (take to (to_bits s.now))))) 0 0) × (out.new ≡ drop 1 (packed (n + 1) (without_zeros 0 (drop from (take to (to_bits s.now))))) ++ drop n out.old) }
+pub fn deliver(s: &[u8], span: Span, out: &mut [u8], n: usize) -> u8
+    requires { (span.to ≤ 8 * length s.now) × (8 * (n + 1) ≤ length (without_zeros 0 (drop span.from (take span.to (to_bits s.now))))) × (n ≤ length out.old) }
+    ensures { (result ≡ get_or (packed (n + 1) (without_zeros 0 (drop span.from (take span.to (to_bits s.now))))) 0 0) × (out.new ≡ drop 1 (packed (n + 1) (without_zeros 0 (drop span.from (take span.to (to_bits s.now))))) ++ drop n out.old) }
 {
-    let table = zeros::taken_table();
     let start = Taker {
-        at: from,
+        at: span.from,
         ones: 0,
         acc: 0,
         held: 0,
     };
-    let first = pull(&table, s, to, start);
-    copy(&table, s, to, rest_of(first), out, n);
+    let first = pull(s, span.to, start);
+    copy(s, span.to, rest_of(first), out, n);
     byte_of(first)
 }
