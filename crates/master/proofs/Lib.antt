@@ -13,7 +13,5 @@ pub mod PollLaws
 pub mod PollKeeps
 pub mod DueLaws
 pub mod RowPollLaws
-pub mod Lent
-pub mod SlotCall
 pub mod RowTies
 pub mod LineLaws

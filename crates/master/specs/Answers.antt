@@ -1,12 +1,16 @@
 -- What an entry tells, in 01's numbers: a refusal, the site file's with its first fault (02, Req 01), or an answer of one kind with its
 -- values.
-use Rattle.std.specs.Prelude.{ℕ, Bool, cond, eqb}
+use Rattle.std.specs.Prelude.{ℕ, Bool, cond, eqb, Result, Ok, Err}
+use Rattle.refusals.specs.declared.Refusal.{Refusal}
+use Rattle.refusals.specs.Refusals.{number}
+use Rattle.terms.specs.Statuses.{byte_of}
 use Rattle.site.specs.declared.Fault.{Fault}
+use Rattle.site.specs.declared.Refused.{Refused}
+use Rattle.site.specs.declared.Refused.TheVariants.{Site, By}
 use Rattle.site.specs.Faults.{fault_part, fault_row, fault_breach}
 use Rattle.master.specs.declared.Answer.{Answer}
-use Rattle.master.specs.declared.Answer.TheVariants.{Refused, Faulty, Nothing, Status, Assigned, At, LoggedIn}
+use Rattle.master.specs.declared.Answer.TheVariants.{Nothing, Status, Assigned, At, LoggedIn}
 use Rattle.master.specs.declared.Turned.{Turned}
-use Rattle.master.specs.declared.Turned.TheVariants.{Refused as NotTurned, Turn}
 
 -- the kinds: nothing more to tell; a status; size code, partition number, control, volume; volume and sector; number, name found, and
 -- the number in the four serial bytes; was a turn due, did it end in a logout; the length of a frame written; the code of a frame read; how many
@@ -44,17 +48,22 @@ answers_unless k a = cond (eqb k 0) (answers a) (refuses k)
 unfoldable pub fault_told : Fault → Told
 fault_told x = refuses_site (fault_part x) (fault_row x) (fault_breach x)
 
--- what the answer to a frame tells
-unfoldable pub told : Answer → Told
-told (Refused k) = refuses k
-told (Faulty x) = fault_told x
-told Nothing = answers no_bytes
-told (Status s) = answers (status_byte s)
-told (Assigned size partition control volume) = answers (assign_bytes size partition.0 control volume.0)
-told (At p) = answers (place_at p.volume.0 p.sector)
-told (LoggedIn number found serial) = answers (login_as number found serial)
+-- what a frame tells, answered or refused
+unfoldable pub told : Result Answer Refused → Told
+told (Ok Nothing) = answers no_bytes
+told (Ok (Status s)) = answers (status_byte (byte_of s))
+told (Ok (Assigned size partition control volume)) = answers (assign_bytes size partition.0 control volume.0)
+told (Ok (At p)) = answers (place_at p.volume.0 p.sector)
+told (Ok (LoggedIn number found serial)) = answers (login_as number found serial)
+told (Err (Site x)) = fault_told x
+told (Err (By r)) = refuses (number r)
 
--- what the answer to a poll turn tells
-unfoldable pub turn_told : Turned → Told
-turn_told (NotTurned k) = refuses k
-turn_told (Turn due out) = answers (turn_was due out)
+-- what an entry tells that is done or refused, and no more
+unfoldable pub done_told : Result (Unit {0}) Refusal → Told
+done_told (Ok u) = answers no_bytes
+done_told (Err r) = refuses (number r)
+
+-- what a poll turn tells
+unfoldable pub turn_told : Result Turned Refusal → Told
+turn_told (Ok t) = answers (turn_was t.due t.out)
+turn_told (Err r) = refuses (number r)

@@ -1,5 +1,5 @@
 -- What each frame does. n is the number polled, q the request, s the site file, t and w the tables.
-use Rattle.std.specs.Prelude.{ℕ, zero, suc, Bool, false, cond, not, ◌&&◌, ◌||◌, List, eqb, ltb}
+use Rattle.std.specs.Prelude.{ℕ, zero, suc, Bool, false, cond, not, ◌&&◌, ◌||◌, List, Result, eqb, ltb}
 use Rattle.rows.specs.Words.{same, zeros}
 use Rattle.rows.specs.Numbers.{low_first}
 use Rattle.frames.specs.declared.Command.{Command}
@@ -7,11 +7,11 @@ use Rattle.frames.specs.declared.Command.TheVariants.{Acknowledge, Read, Write, 
 use Rattle.frames.specs.declared.Request.{Request}
 use Rattle.frames.specs.Reading.{request_in}
 use Rattle.site.specs.declared.PartitionRow.{PartitionRow}
-use Rattle.site.specs.declared.Placed.{Placed}
+use Rattle.site.specs.declared.Refused.{Refused}
 use Rattle.site.specs.Layout.{partitions, partition_row, partition_password}
 use Rattle.site.specs.Faults.{first_fault}
 use Rattle.site.specs.Found.{has_user, index_of_name}
-use Rattle.site.specs.Places.{placed_in}
+use Rattle.site.specs.Places.{Placed, placed_in}
 use Rattle.who.specs.Good.{numbers}
 use Rattle.who.specs.Logins.{has_serial, lowest_number, logged_in_as, after_login, after_logout}
 use Rattle.locks.specs.Table.{lock_status, lock_table, unlock_status, unlock_table, cleared_table}
@@ -97,5 +97,5 @@ unfoldable pub frame_effect : ℕ → List ℕ → List ℕ → List ℕ → Lis
 frame_effect n f s t w = unless_told (refusal n f s t w) (refusal_told s (refusal n f s t w)) t w (request_effect (request_in f) n s t w)
 
 -- what serving a frame gives and leaves, whole
-abbrev pub Serves : ℕ → List ℕ → List ℕ → List ℕ → List ℕ → Answer → List ℕ → List ℕ → Type 0
+abbrev pub Serves : ℕ → List ℕ → List ℕ → List ℕ → List ℕ → Result Answer Refused → List ℕ → List ℕ → Type 0
 Serves n f s t w r = Does (frame_effect n f s t w) (told r)

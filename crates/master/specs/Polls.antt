@@ -1,6 +1,7 @@
 -- One poll turn of the number n: refusals 11, 2, 5, 12 in this order, or the turn.
-use Rattle.std.specs.Prelude.{ℕ, Bool, true, false, cond, not, ◌&&◌, ◌||◌, List, eqb}
+use Rattle.std.specs.Prelude.{ℕ, Bool, true, false, cond, not, ◌&&◌, ◌||◌, List, Result, eqb}
 use Rattle.rows.specs.Rows.{row, set_row}
+use Rattle.refusals.specs.declared.Refusal.{Refusal}
 use Rattle.who.specs.declared.Station.{Station}
 use Rattle.who.specs.Records.{bytes_of, station_of}
 use Rattle.who.specs.Row.{vacant}
@@ -71,5 +72,5 @@ unfoldable pub due_told : ℕ → List ℕ → List ℕ → Told
 due_told n t w = answers_unless (poll_refusal n false t w) (turn_was (due_now (station_at w n)) false)
 
 -- what a poll turn gives and leaves, whole
-abbrev pub Polls : ℕ → Bool → List ℕ → List ℕ → Turned → List ℕ → List ℕ → Type 0
+abbrev pub Polls : ℕ → Bool → List ℕ → List ℕ → Result Turned Refusal → List ℕ → List ℕ → Type 0
 Polls n heard t w r = Does (poll_effect n heard t w) (turn_told r)

@@ -1,5 +1,6 @@
 -- The same poll turn over the records lent as one row xs, beside the lock table t.
-use Rattle.std.specs.Prelude.{ℕ, Bool, ◌&&◌, List, set}
+use Rattle.std.specs.Prelude.{ℕ, Bool, ◌&&◌, List, Result, set}
+use Rattle.refusals.specs.declared.Refusal.{Refusal}
 use Rattle.who.specs.declared.Station.{Station}
 use Rattle.who.specs.Good.{good_row}
 use Rattle.who.specs.Row.{station_in, is_in}
@@ -16,5 +17,5 @@ unfoldable pub row_effect : ℕ → Bool → List Station → List ℕ → Effec
 row_effect n heard xs t = unless (row_refusal n heard xs t) t xs (placing (λ s. set xs n s) (station_turn n (station_in xs n) heard t))
 
 -- what a poll turn over the row gives and leaves, whole
-abbrev pub RowPolls : ℕ → Bool → List Station → List ℕ → Turned → List Station → List ℕ → Type 0
+abbrev pub RowPolls : ℕ → Bool → List Station → List ℕ → Result Turned Refusal → List Station → List ℕ → Type 0
 RowPolls n heard xs t r xs' t' = Does (row_effect n heard xs t) (turn_told r) t' xs'

@@ -1,5 +1,5 @@
 // What each command does, over good tables and a good site file.
-ghost use Rattle.std.specs.Prelude.{◌≡◌, true, false, ◌||◌, ◌<◌, eqb};
+ghost use Rattle.std.specs.Prelude.{◌≡◌, Result, Ok, true, false, ◌||◌, ◌<◌, eqb};
 ghost use Rattle.frames.specs.Table.{LOGIN};
 ghost use Rattle.frames.specs.Writing.{code_of};
 ghost use Rattle.rows.specs.Words.{same, zeros};
@@ -14,21 +14,17 @@ ghost use Rattle.master.specs.Inner.{LogsIn, LogsOut, LogsOldOut, Performs};
 
 use crate::Answer;
 use frames::{Command, Request};
-use terms::{Address, Partition, Volume};
+use site::Refused;
+use terms::{Address, Partition, Status, Volume};
 use who::Station;
 
 // Read, write: the place.
-fn place(site: &[u8], address: Address) -> Answer
+fn place(site: &[u8], address: Address) -> Result<Answer, Refused>
     requires { good_site site.now ≡ true }
     ensures { told result ≡ place_told (placed_in site.now address) }
 {
-    let placed = site::place_in(site, address);
-    let refusal = placed.refusal;
-    if refusal != 0 {
-        return Answer::Refused(refusal);
-    }
-    let at = placed.place;
-    Answer::At(at)
+    let place = site::place_in(site, address)?;
+    Ok(Answer::At(place))
 }
 
 // Login: the lowest free number is logged in.
@@ -36,25 +32,21 @@ fn log_in(q: Request, product: u8, site: &[u8], records: &mut [u8]) -> Answer
     requires { (good_records records.old ≡ true) × (good_site site.now ≡ true) }
     ensures { LogsIn q product site.now records.old result records.new }
 {
-    let name = q.name;
-    let password = q.password;
-    let serial = q.serial;
-    let sent = rows::four_at(&serial, 0);
-    let number = who::lowest_number(records);
-    if who::NUMBERS <= number {
+    let sent = u32::from_le_bytes(q.serial);
+    let Some(number) = who::lowest_number(records) else {
         return Answer::LoggedIn {
             number: 0,
             found: false,
             serial: sent,
         };
-    }
-    let found = site::has_user(site, name, password);
+    };
+    let found = site::has_user(site, q.name, q.password);
     let station = Station {
         logged: true,
         misses: 0,
         slow: 0,
-        name,
-        serial,
+        name: q.name,
+        serial: q.serial,
         product,
         found,
     };
@@ -68,7 +60,7 @@ fn log_in(q: Request, product: u8, site: &[u8], records: &mut [u8]) -> Answer
 
 // FF 00 00 00.
 fn denied() -> Answer
-    ensures { told result ≡ answers (assign_bytes 0xFF 0 0 0) }
+    ensures { told (Ok result) ≡ answers (assign_bytes 0xFF 0 0 0) }
 {
     Answer::Assigned {
         size: 0xFF,
@@ -83,34 +75,26 @@ fn password_fits(site: &[u8], i: usize, password: [u8; 6]) -> bool
     requires { (good_site site.now ≡ true) × (i < partitions site.now) }
     ensures { result ≡ zeros password || same (partition_password site.now i) password }
 {
-    if rows::is_zero(&password) {
-        return true;
-    }
-    site::partition_password_is(site, i, password)
+    rows::is_zero(&password) || site::partition_password_is(site, i, password)
 }
 
 // Assign: the row with that name, if the password fits.
 fn assign(q: Request, site: &[u8]) -> Answer
     requires { good_site site.now ≡ true }
-    ensures { told result ≡ assign_answer q site.now }
+    ensures { told (Ok result) ≡ assign_answer q site.now }
 {
-    let name = q.name;
-    let password = q.password;
-    let i = site::partition_named(site, name);
-    if site::partition_count(site) <= i {
+    let Some(i) = site::partition_named(site, q.name) else {
         return denied();
-    }
-    if !password_fits(site, i, password) {
+    };
+    if !password_fits(site, i, q.password) {
         return denied();
     }
     let row = site::partition_row(site, i);
-    let partition = row.partition;
-    let volume = row.volume;
     Answer::Assigned {
         size: row.size,
-        partition,
+        partition: row.partition,
         control: row.control,
-        volume,
+        volume: row.volume,
     }
 }
 
@@ -131,42 +115,43 @@ fn log_old_out(serial: [u8; 4], locks: &mut [u8], records: &mut [u8])
     if rows::is_zero(&serial) {
         return;
     }
-    let mut n: usize = 0;
-    while n < who::NUMBERS {
+    for n in 0..who::NUMBERS {
         if who::has_serial(records, n, serial) {
             log_out(n as u8, locks, records);
         }
-        n += 1;
     }
 }
 
 // What a request does at a number. A number that is not logged in may only log in.
-pub fn perform(number: u8, q: Request, site: &[u8], locks: &mut [u8], records: &mut [u8]) -> Answer
+pub fn perform(
+    number: u8,
+    q: Request,
+    site: &[u8],
+    locks: &mut [u8],
+    records: &mut [u8],
+) -> Result<Answer, Refused>
     requires records_value { (good_tables locks.old records.old ≡ true) × (good_site site.now ≡ true) }
     requires number_lt_numbers { eqb (code_of q.command) LOGIN ≡ false → number < numbers }
     ensures { Performs q number site.now locks.old records.old result locks.new records.new }
 {
-    let command = q.command;
-    let serial = q.serial;
-    let string = q.string;
-    match command {
-        Command::Acknowledge => Answer::Nothing,
+    match q.command {
+        Command::Acknowledge => Ok(Answer::Nothing),
         Command::Read { src: _, address } => place(site, address),
         Command::Write { src: _, address } => place(site, address),
         Command::Login { product } => {
-            log_old_out(serial, locks, records);
-            log_in(q, product, site, records)
+            log_old_out(q.serial, locks, records);
+            Ok(log_in(q, product, site, records))
         }
-        Command::Assign => assign(q, site),
-        Command::Lock => Answer::Status(locks::lock(locks, number, string)),
-        Command::Unlock => Answer::Status(locks::unlock(locks, number, string)),
+        Command::Assign => Ok(assign(q, site)),
+        Command::Lock => Ok(Answer::Status(locks::lock(locks, number, q.string))),
+        Command::Unlock => Ok(Answer::Status(locks::unlock(locks, number, q.string))),
         Command::Clear => {
             locks::free_all(locks, number);
-            Answer::Status(0x00)
+            Ok(Answer::Status(Status::Granted))
         }
         Command::Logout { src: _ } => {
             log_out(number, locks, records);
-            Answer::Nothing
+            Ok(Answer::Nothing)
         }
     }
 }

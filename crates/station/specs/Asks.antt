@@ -1,5 +1,7 @@
 -- What a station asks, and the frame it then sends until a reply comes.
-use Rattle.std.specs.Prelude.{ℕ, ◌*◌, Bool, cond, not, ◌&&◌, List, [], ◌∷◌, ◌++◌, eqb, ltb, length, replicate}
+use Rattle.std.specs.Prelude.{ℕ, ◌*◌, Bool, cond, not, ◌&&◌, List, Option, Some, None, Result, [], ◌∷◌, ◌++◌, eqb, ltb, length, replicate}
+use Rattle.refusals.specs.declared.Refusal.{Refusal}
+use Rattle.refusals.specs.Outcomes.{LeavesUnless}
 use Rattle.rows.specs.Outcomes.{Leaves}
 use Rattle.rows.specs.Rows.{over}
 use Rattle.terms.specs.declared.LockString.{LockString}
@@ -7,7 +9,6 @@ use Rattle.terms.specs.Strings.{string_bytes, legal}
 use Rattle.frames.specs.declared.Command.{Command}
 use Rattle.frames.specs.declared.Command.TheVariants.{Lock, Unlock, Clear}
 use Rattle.frames.specs.Table.{LOCK, UNLOCK, CLEAR}
-use Rattle.station.specs.declared.Sent.{Sent}
 use Rattle.station.specs.State.{list_of, wait_of, is_listed, place_of, struck_at, code_in, nothing}
 use Rattle.station.specs.Good.{limit, state_length, good_state}
 
@@ -58,6 +59,10 @@ fresh_refusal st = cond (eqb (length st) state_length) 0 11
 unfoldable pub command_for : ℕ → Command
 command_for code = cond (eqb code LOCK) Lock (cond (eqb code UNLOCK) Unlock Clear)
 
+-- the command whose frame is awaited
+unfoldable pub command_in : List ℕ → Option Command
+command_in v = cond (eqb (code_in v) 0) None (Some (command_for (code_in v)))
+
 -- the frame awaited: its code and its fields
 unfoldable pub frame_awaited : List ℕ → List ℕ
 frame_awaited v = cond (eqb (code_in v) 0) [] (cond (eqb (code_in v) CLEAR) (CLEAR ∷ []) v)
@@ -65,6 +70,11 @@ frame_awaited v = cond (eqb (code_in v) 0) [] (cond (eqb (code_in v) CLEAR) (CLE
 -- 11 the state, 13 the buffer is too short for the frame
 unfoldable pub send_refusal : List ℕ → ℕ → ℕ
 send_refusal st n = cond (not (good_state st)) 11 (cond (ltb n (length (frame_awaited (wait_of st)))) 13 0)
+
+-- what a station sends: a refusal and 0, or 0 and the length of the frame, 0 where nothing is awaited
+pub record Sent : Type 0 where
+  pub refusal : ℕ
+  pub length : ℕ
 
 unfoldable pub sent_of : List ℕ → ℕ → Sent
 sent_of st n =
@@ -74,3 +84,6 @@ sent_of st n =
 
 unfoldable pub buffer_after : List ℕ → List ℕ → List ℕ
 buffer_after st b = cond (eqb (send_refusal st (length b)) 0) (over (frame_awaited (wait_of st)) b) b
+
+abbrev pub Sends : List ℕ → List ℕ → Result ℕ Refusal → List ℕ → Type 0
+Sends st b = LeavesUnless (sent_of st (length b)).refusal (sent_of st (length b)).length (buffer_after st b)

@@ -1,5 +1,6 @@
 -- A station's state: the places of its list, 14 bytes each (length, 13 bytes; length 0 is unused), then the 15 bytes of the frame awaited.
 use Rattle.std.specs.Prelude.{ℕ, ◌+◌, ◌-◌, ◌*◌, ◌/◌, Bool, List, ◌++◌, leb, length, get_or, take, drop, replicate}
+use Rattle.std.proofs.Common.{lit≤}
 use Rattle.rows.specs.Words.{any, first}
 use Rattle.rows.specs.Rows.{put}
 use Rattle.terms.specs.declared.table.Shape.{Shape}
@@ -19,7 +20,7 @@ abbrev pub place_count : List ℕ → ℕ
 place_count l = length l / 14
 
 abbrev pub places : Shape
-places = record { width = 14; string = 0; free = 0 }
+places = record { width = 14; string = 0; free = 0; room = lit≤ tt }
 
 abbrev pub place_string : List ℕ → LockString
 place_string = string_in places

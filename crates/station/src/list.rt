@@ -1,26 +1,30 @@
 // A station's list of locks: places of 14 lent bytes, length and string, the used ones first.
-ghost use Rattle.std.specs.Prelude.{◌≡◌, ◌+◌, ◌*◌, ◌≤◌, length};
-ghost use Rattle.rows.specs.Words.{first};
+ghost use Rattle.std.specs.Prelude.{◌≡◌, ◌+◌, ◌*◌, ◌/◌, ◌≤◌, length};
+ghost use Rattle.rows.specs.Outcomes.{Finds};
 ghost use Rattle.rows.specs.Rows.{put as put_in};
 ghost use Rattle.terms.specs.Strings.{string_bytes, normal};
-ghost use Rattle.station.specs.State.{places, unused, listed_at, struck_at};
+ghost use Rattle.station.specs.State.{places, place_count, place_of, unused, listed, struck_at};
 ghost use Rattle.station.specs.Asks.{struck};
 
-use terms::table::Shape;
-use terms::{LockString, table};
+use terms::LockString;
+use terms::table::{Shape, Table};
 
 pub const PLACE: usize = 14;
 
-const UNUSED: [u8; 14] = [0, 0, 0, 0, 0, 0, 0, 0, 0, 0, 0, 0, 0, 0];
-
-// How the places hold their strings.
-pub fn shape() -> Shape
-    ensures { result ≡ places }
+// The places as they hold their strings.
+pub fn strings(list: &[u8]) -> Table<'_>
+    ensures bytes { result.bytes.now ≡ list.now }
+    ensures shape { result.shape ≡ places }
+    ensures count { result.count ≡ length list.now / 14 }
 {
-    Shape {
-        width: PLACE,
-        string: 0,
-        free: 0,
+    Table {
+        bytes: list,
+        shape: Shape {
+            width: PLACE,
+            string: 0,
+            free: 0,
+        },
+        count: list.len() / PLACE,
     }
 }
 
@@ -32,27 +36,23 @@ pub fn is_unused(list: &[u8], i: usize) -> bool
     list[PLACE * i] == 0
 }
 
-// The first of n places that holds s, or n.
-pub fn find(list: &[u8], n: usize, s: LockString) -> usize
-    requires { 14 * n ≤ length list.now }
-    ensures { result ≡ first (listed_at list.now s) n }
+// The place that holds s.
+pub fn find(list: &[u8], s: LockString) -> Option<usize>
+    ensures { Finds (place_count list.now) (place_of list.now s) result }
 {
-    table::find(list, shape(), n, s)
+    strings(list).find(s)
 }
 
-// The first of n places that is unused, or n: how many strings are listed.
-pub fn count(list: &[u8], n: usize) -> usize
-    requires { 14 * n ≤ length list.now }
-    ensures { result ≡ first (unused list.now) n }
+// The first unused place: how many strings are listed.
+pub fn first_unused(list: &[u8]) -> Option<usize>
+    ensures { Finds (place_count list.now) (listed list.now) result }
 {
-    let mut i: usize = 0;
-    while i < n {
+    for i in 0..list.len() / PLACE {
         if is_unused(list, i) {
-            return i;
+            return Some(i);
         }
-        i += 1;
     }
-    n
+    None
 }
 
 // Puts s down in place i, with zeros after it.
@@ -71,7 +71,7 @@ fn strike_at(list: &mut [u8], i: usize)
     let at = PLACE * i;
     let last = list.len() - PLACE;
     rows::slide(list, at + PLACE, at, last - at);
-    rows::put(list, last, &UNUSED);
+    list[last..].fill(0);
 }
 
 // Strikes s from the list where it is legal and listed.
@@ -81,9 +81,7 @@ pub fn strike(list: &mut [u8], s: LockString)
     if !terms::is_legal(s) {
         return;
     }
-    let n = list.len() / PLACE;
-    let i = find(list, n, s);
-    if i < n {
+    if let Some(i) = find(list, s) {
         strike_at(list, i);
     }
 }

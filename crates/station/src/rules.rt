@@ -1,52 +1,42 @@
 // The rules of a station's state, place by place, and of the frame awaited.
-ghost use Rattle.std.specs.Prelude.{◌≡◌, ◌*◌, ◌≤◌, length};
+ghost use Rattle.std.specs.Prelude.{◌≡◌, length};
 ghost use Rattle.rows.specs.Words.{all};
+ghost use Rattle.station.specs.State.{place_count};
 ghost use Rattle.station.specs.Good.{good_place, good_at, in_front, good_wait};
 
 use crate::list;
-use frames::code;
+use frames::Code;
 
 // A place by itself: unused and zero, or a legal string with zeros after it.
 fn place_good(r: &[u8]) -> bool
     requires { length r.now ≡ 14 }
     ensures { result ≡ good_place r.now }
 {
-    let len = rows::index_of(r[0]);
-    if len == 0 {
-        return rows::is_zero(r);
-    }
-    if 13 < len {
-        return false;
-    }
-    rows::is_zero(rows::part(r, 1 + len, 13 - len))
+    let len = usize::from(r[0]);
+    len <= 13 && rows::is_zero(&r[1 + len..])
 }
 
-// Each of the first n places keeps the rules by itself.
-pub fn places_good(list: &[u8], n: usize) -> bool
-    requires { 14 * n ≤ length list.now }
-    ensures { result ≡ all (good_at list.now) n }
+// Each place keeps the rules by itself.
+pub fn places_good(list: &[u8]) -> bool
+    ensures { result ≡ all (good_at list.now) (place_count list.now) }
 {
-    let mut i: usize = 0;
-    while i < n {
+    for i in 0..list.len() / list::PLACE {
         if !place_good(rows::part(list, list::PLACE * i, list::PLACE)) {
             return false;
         }
-        i += 1;
     }
     true
 }
 
-// No used place after an unused one, of the first n.
-pub fn used_first(list: &[u8], n: usize) -> bool
-    requires { 14 * n ≤ length list.now }
-    ensures { result ≡ all (in_front list.now) n }
+// No used place after an unused one.
+pub fn used_first(list: &[u8]) -> bool
+    ensures { result ≡ all (in_front list.now) (place_count list.now) }
 {
-    let mut i = list::count(list, n);
-    while i < n {
+    let count = list.len() / list::PLACE;
+    for i in list::first_unused(list).unwrap_or(count)..count {
         if !list::is_unused(list, i) {
             return false;
         }
-        i += 1;
     }
     true
 }
@@ -56,17 +46,10 @@ pub fn wait_good(wait: &[u8]) -> bool
     requires { length wait.now ≡ 15 }
     ensures { result ≡ good_wait wait.now }
 {
-    let code = wait[0];
-    if code == code::LOCK {
-        return true;
+    match Code::try_from(wait[0]) {
+        Ok(Code::Lock | Code::Unlock) => true,
+        Ok(Code::Clear) => rows::is_zero(&wait[1..]),
+        Ok(_) => false,
+        Err(_) => rows::is_zero(wait),
     }
-    if code == code::UNLOCK {
-        return true;
-    }
-    if code != 0 {
-        if code != code::CLEAR {
-            return false;
-        }
-    }
-    rows::is_zero(rows::part(wait, 1, 14))
 }

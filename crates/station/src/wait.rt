@@ -1,0 +1,38 @@
+// The frame awaited, as it stands in the last 15 bytes of a state: its code, 0 for none, and the string asked for.
+ghost use Rattle.std.specs.Prelude.{◌≡◌, length};
+ghost use Rattle.frames.specs.Codes.{byte_of};
+ghost use Rattle.station.specs.State.{asked_in};
+ghost use Rattle.station.specs.Asks.{awaited, command_in};
+
+use frames::{Code, Command};
+use terms::LockString;
+
+// Awaits the frame with this code and string.
+pub fn begin(wait: &mut [u8], code: Code, s: LockString)
+    requires { length wait.old ≡ 15 }
+    ensures { wait.new ≡ awaited (byte_of code) s }
+{
+    wait[0] = u8::from(code);
+    terms::put_string(wait, 1, s);
+}
+
+// The string asked for, as it was asked.
+pub fn string(wait: &[u8]) -> LockString
+    requires { length wait.now ≡ 15 }
+    ensures { result ≡ asked_in wait.now }
+{
+    terms::string_at(wait, 1)
+}
+
+// The command whose frame is awaited.
+pub fn command(wait: &[u8]) -> Option<Command>
+    requires { length wait.now ≡ 15 }
+    ensures { result ≡ command_in wait.now }
+{
+    match Code::try_from(wait[0]) {
+        Ok(Code::Lock) => Some(Command::Lock),
+        Ok(Code::Unlock) => Some(Command::Unlock),
+        Ok(Code::Clear) => Some(Command::Clear),
+        _ => None,
+    }
+}
