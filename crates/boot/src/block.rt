@@ -1,45 +1,42 @@
 // Boot Phase 2's data block (specs/Block.antt), made of the names to load. Nothing is written before every name was found.
 ghost use Rattle.std.specs.Prelude.{◌≡◌, true, ◌/◌, ◌≤◌, ◌<◌, length};
+ghost use Rattle.rows.specs.Outcomes.{Finds};
 ghost use Rattle.rows.specs.Rows.{put, join};
-ghost use Rattle.directory.specs.Directory.{file_of};
-ghost use Rattle.boot.specs.Choice.{choice_of, name_of, all_there};
+ghost use Rattle.directory.specs.Directory.{files, file_of};
+ghost use Rattle.boot.specs.Honors.{flag_of};
+ghost use Rattle.boot.specs.Choice.{name_of, all_there};
+ghost use Rattle.boot.specs.Lent.{names_of};
 ghost use Rattle.boot.specs.Block.{load_entry, block_of};
 ghost use Rattle.boot.specs.Inner.{Sends};
 
-use crate::BLOCK;
+use crate::{BLOCK, Choice, Honor};
 
 // Where the load entries begin, and the bytes of each.
 const ENTRIES: usize = 66;
 
 const ENTRY: usize = 16;
 
-// Every name to load is in the directory.
-fn all_there(directory: &[u8], list: &[u8]) -> bool
-    ensures { result ≡ all_there directory.now list.now }
-{
-    let n = list.len() / directory::NAME;
-    let mut k: usize = 0;
-    while k < n {
-        if !directory::is_there(
-            directory,
-            rows::part(list, directory::NAME * k, directory::NAME),
-        ) {
-            return false;
-        }
-        k += 1;
-    }
-    true
-}
-
 // The file of name k of the list.
-fn file_at(directory: &[u8], list: &[u8], k: usize) -> usize
+fn file_at(directory: &[u8], list: &[u8], k: usize) -> Option<usize>
     requires { k < length list.now / 8 }
-    ensures { result ≡ file_of directory.now (name_of list.now k) }
+    ensures { Finds (files directory.now) (file_of directory.now (name_of list.now k)) result }
 {
     directory::find(
         directory,
         rows::part(list, directory::NAME * k, directory::NAME),
     )
+}
+
+// Every name to load is in the directory.
+fn all_there(directory: &[u8], list: &[u8]) -> bool
+    ensures { result ≡ all_there directory.now list.now }
+{
+    for k in 0..list.len() / directory::NAME {
+        if file_at(directory, list, k).is_none() {
+            return false;
+        }
+    }
+    true
 }
 
 // Puts the load entry of each name down in the block.
@@ -48,46 +45,47 @@ fn put_entries(directory: &[u8], list: &[u8], block: &mut [u8])
     requires list_value { all_there directory.now list.now ≡ true }
     ensures { block.new ≡ put block.old 66 (join (load_entry directory.now list.now) (length list.now / 8)) }
 {
-    let n = list.len() / directory::NAME;
-    let mut k: usize = 0;
-    while k < n {
-        let entry = directory::entry_of(directory, file_at(directory, list, k));
-        rows::put(block, ENTRIES + ENTRY * k, entry);
-        k += 1;
+    for k in 0..list.len() / directory::NAME {
+        if let Some(file) = file_at(directory, list, k) {
+            rows::put(
+                block,
+                ENTRIES + ENTRY * k,
+                directory::entry_of(directory, file),
+            );
+        }
     }
 }
 
 // The block of a choice, of whose names none is missing.
-fn make(directory: &[u8], list: &[u8], flag: u8, iobyte: u8, configuration: &[u8]) -> [u8; 194]
-    requires list_len_bound { (length list.now ≤ 64) × (length configuration.now ≡ 64) }
-    requires list_value { all_there directory.now list.now ≡ true }
-    ensures { result ≡ block_of directory.now configuration.now iobyte (choice_of flag list.now) }
+fn make(directory: &[u8], choice: Choice, iobyte: u8, configuration: &[u8]) -> [u8; 194]
+    requires list_len_bound { (length choice.names.now ≤ 64) × (length configuration.now ≡ 64) }
+    requires list_value { all_there directory.now choice.names.now ≡ true }
+    ensures { result ≡ block_of directory.now configuration.now iobyte (names_of choice.entry) }
 {
     let mut block = [0u8; BLOCK];
     rows::put(&mut block, 0, rows::part(configuration, 0, 32));
     block[32] = iobyte;
     rows::put(&mut block, 33, rows::part(configuration, 32, 32));
-    block[65] = flag;
-    put_entries(directory, list, &mut block);
+    block[65] = u8::from(choice.honor);
+    put_entries(directory, choice.names, &mut block);
     block
 }
 
-// Sends a choice: its flag, with the block at the start of the buffer; or 4 where a name is not in the directory.
+// Sends a choice: its honor, with the block at the start of the buffer; or nothing where a name is not in the directory.
 pub fn send(
     directory: &[u8],
-    list: &[u8],
-    flag: u8,
+    choice: Choice,
     iobyte: u8,
     configuration: &[u8],
     buffer: &mut [u8],
-) -> u8
-    requires { (length list.now ≤ 64) × (length configuration.now ≡ 64) × (194 ≤ length buffer.old) }
-    ensures { Sends directory.now configuration.now iobyte (choice_of flag list.now) buffer.old result buffer.new }
+) -> Honor
+    requires { (length choice.names.now ≤ 64) × (length configuration.now ≡ 64) × (194 ≤ length buffer.old) }
+    ensures { Sends directory.now configuration.now iobyte (names_of choice.entry) buffer.old (flag_of result) buffer.new }
 {
-    if !all_there(directory, list) {
-        return 4;
+    if !all_there(directory, choice.names) {
+        return Honor::Nothing;
     }
-    let block = make(directory, list, flag, iobyte, configuration);
+    let block = make(directory, choice, iobyte, configuration);
     rows::put(buffer, 0, &block);
-    flag
+    choice.honor
 }

@@ -1,21 +1,25 @@
 // The OS table (specs/Systems.antt): which systems fit a user and his machine, and which of them he gets.
-ghost use Rattle.std.specs.Prelude.{◌≡◌, ◌+◌, ◌*◌, ◌<◌, length};
+ghost use Rattle.std.specs.Prelude.{◌≡◌, ◌+◌, ◌*◌, ◌≤◌, ◌<◌, length};
 ghost use Rattle.rows.specs.Words.{first, smallest};
 ghost use Rattle.rows.specs.Numbers.{low_first, bit_at};
-ghost use Rattle.boot.specs.Tables.{seven_bits};
-ghost use Rattle.boot.specs.Systems.{system_rows, os_fits, first_name, load_list, suits, fits as fits_at, system_size, fits_exactly};
-ghost use Rattle.boot.specs.Inner.{weight, smallest_pick, pick_of};
+ghost use Rattle.rows.specs.Outcomes.{Finds};
+ghost use Rattle.directory.specs.Directory.{files, file_of};
+ghost use Rattle.boot.specs.Tables.{seven_bits, machine_rows, product_rows, user_rows};
+ghost use Rattle.boot.specs.Systems.{system_rows, os_fits, first_name, load_list, suits, fits, system_size, fits_exactly};
+ghost use Rattle.boot.specs.Choice.{chosen_for};
+ghost use Rattle.boot.specs.Lent.{tables_of, names_of};
+ghost use Rattle.boot.specs.Inner.{Weighs};
 
-use crate::tables;
+use crate::{Choice, Honor, Tables, lookups};
 
-// Larger than the length of any file.
-const NONE: u32 = 65536;
-
-// The system that a user gets: 0 exactly, 1 the smallest, 3 none; and its row, the number of rows for none.
+// The systems, the directory that their files are in, and what is asked of a system: it is the one wanted, and for the
+// product.
 #[derive(Clone, Copy)]
-pub struct Pick {
-    pub flag: u8,
-    pub row: usize,
+struct Systems<'a> {
+    table: &'a [u8],
+    directory: &'a [u8],
+    wanted: u8,
+    product: u8,
 }
 
 // A system of this number is the one wanted: the kind matches, and the one of its kind does or is not asked for.
@@ -25,10 +29,7 @@ fn os_fits(number: u8, wanted: u8) -> bool
     if number / 16 != wanted / 16 {
         return false;
     }
-    if wanted % 16 == 0 {
-        return true;
-    }
-    number % 16 == wanted % 16
+    wanted % 16 == 0 || number % 16 == wanted % 16
 }
 
 // The bit of a product number in a map of 128 bits.
@@ -36,149 +37,124 @@ fn in_map(map: &[u8], product: u8) -> bool
     requires { length map.now ≡ 16 }
     ensures { result ≡ bit_at (low_first map.now) (seven_bits product) }
 {
-    let bit = rows::index_of(tables::seven_bits(product));
+    let bit = usize::from(lookups::seven_bits(product));
     let byte = map[bit / 8];
     (byte >> (bit % 8)) & 1 == 1
 }
 
-// System i is the one wanted and for the product.
-fn is_suited(systems: &[u8], i: usize, wanted: u8, product: u8) -> bool
-    requires { i < system_rows systems.now }
-    ensures { result ≡ suits systems.now wanted product i }
-{
-    let at = tables::SYSTEM * i;
-    if !os_fits(systems[at], wanted) {
-        return false;
-    }
-    in_map(rows::part(systems, at + 1, 16), product)
-}
-
-// The first name in the load list of system i.
-fn first_name(systems: &[u8], i: usize) -> &[u8]
-    requires { i < system_rows systems.now }
-    ensures { (result.now ≡ first_name systems.now i) × (length result.now ≡ 8) }
-{
-    rows::part(systems, tables::SYSTEM * i + 23, directory::NAME)
-}
-
-// System i fits: it is suited, and its first name is in the directory.
-fn fits(systems: &[u8], directory: &[u8], i: usize, wanted: u8, product: u8) -> bool
-    requires { i < system_rows systems.now }
-    ensures { result ≡ fits_at systems.now directory.now wanted product i }
-{
-    if !is_suited(systems, i, wanted, product) {
-        return false;
-    }
-    directory::is_there(directory, first_name(systems, i))
-}
-
-// System i fits, and its option map is this one.
-fn fits_exactly(
-    systems: &[u8],
-    directory: &[u8],
-    i: usize,
-    wanted: u8,
-    product: u8,
-    options: &[u8],
-) -> bool
-    requires { i < system_rows systems.now }
-    ensures { result ≡ fits_exactly systems.now directory.now wanted product options.now i }
-{
-    if !fits(systems, directory, i, wanted, product) {
-        return false;
-    }
-    rows::is_same(rows::part(systems, tables::SYSTEM * i + 17, 6), options)
-}
-
-// The first system that fits exactly, or the number of rows.
-fn find_exact(systems: &[u8], directory: &[u8], wanted: u8, product: u8, options: &[u8]) -> usize
-    ensures { result ≡ first (fits_exactly systems.now directory.now wanted product options.now) (system_rows systems.now) }
-{
-    let n = systems.len() / tables::SYSTEM;
-    let mut i: usize = 0;
-    while i < n {
-        if fits_exactly(systems, directory, i, wanted, product, options) {
-            return i;
-        }
-        i += 1;
-    }
-    n
-}
-
-// The size of system i, the length of the file that its first name is; NONE where it does not fit.
-fn weigh(systems: &[u8], directory: &[u8], i: usize, wanted: u8, product: u8) -> u32
-    requires { i < system_rows systems.now }
-    ensures { result ≡ weight systems.now directory.now wanted product i }
-{
-    if !is_suited(systems, i, wanted, product) {
-        return NONE;
-    }
-    let file = directory::find(directory, first_name(systems, i));
-    if directory::count(directory) <= file {
-        return NONE;
-    }
-    directory::length_of(directory, file) as u32
-}
-
-// The smallest system that fits, the lower row on a tie, or the number of rows. A row is counted before it is judged, so that both
-// ways of the test go on from there.
-fn find_smallest(systems: &[u8], directory: &[u8], wanted: u8, product: u8) -> usize
-    ensures { result ≡ smallest (fits_at systems.now directory.now wanted product) (system_size systems.now directory.now) (system_rows systems.now) }
-{
-    let n = systems.len() / tables::SYSTEM;
-    let mut best = n;
-    let mut least = NONE;
-    let mut i: usize = 0;
-    while i < n {
-        let row = i;
-        let size = weigh(systems, directory, row, wanted, product);
-        i += 1;
-        if size < least {
-            best = row;
-            least = size;
-        }
-    }
-    best
-}
-
-// The smallest system, with flag 1; flag 3 for none.
-fn pick_smallest(systems: &[u8], directory: &[u8], wanted: u8, product: u8) -> Pick
-    ensures { result ≡ smallest_pick systems.now directory.now wanted product }
-{
-    let row = find_smallest(systems, directory, wanted, product);
-    if row < systems.len() / tables::SYSTEM {
-        return Pick { flag: 1, row };
-    }
-    Pick { flag: 3, row }
-}
-
-// The system that a user gets.
-pub fn choose(
-    systems: &[u8],
-    directory: &[u8],
-    wanted: u8,
-    product: u8,
-    options: &[u8],
-    small: bool,
-) -> Pick
-    ensures { result ≡ pick_of systems.now directory.now wanted product options.now small }
-{
-    if small {
-        return pick_smallest(systems, directory, wanted, product);
-    }
-    let row = find_exact(systems, directory, wanted, product, options);
-    if row < systems.len() / tables::SYSTEM {
-        return Pick { flag: 0, row };
-    }
-    pick_smallest(systems, directory, wanted, product)
-}
-
 // The load list of system i: its names before the first null name.
-pub fn load_list(systems: &[u8], i: usize) -> &[u8]
-    requires { i < system_rows systems.now }
-    ensures { result.now ≡ load_list systems.now i }
+fn load_list(table: &[u8], i: usize) -> &[u8]
+    requires { i < system_rows table.now }
+    ensures { (result.now ≡ load_list table.now i) × (length result.now ≤ 64) }
 {
-    let names = rows::part(systems, tables::SYSTEM * i + 23, 64);
-    let n = rows::find(names, directory::NAME, 8, &[0u8; 8]);
-    rows::part(names, 0, directory::NAME * n)
+    let names = rows::part(table, lookups::SYSTEM * i + 23, 64);
+    match rows::find(names, directory::NAME, 8, &[0u8; 8]) {
+        Some(n) => &names[..directory::NAME * n],
+        None => names,
+    }
+}
+
+impl<'a> Systems<'a> {
+    // System i is the one wanted and for the product.
+    fn is_suited(&self, i: usize) -> bool
+        requires { i < system_rows self.now.table.now }
+        ensures { result ≡ suits self.now.table.now self.now.wanted self.now.product i }
+    {
+        let at = lookups::SYSTEM * i;
+        os_fits(self.table[at], self.wanted)
+            && in_map(rows::part(self.table, at + 1, 16), self.product)
+    }
+
+    // The file that the first name of system i is.
+    fn first_file(&self, i: usize) -> Option<usize>
+        requires { i < system_rows self.now.table.now }
+        ensures { Finds (files self.now.directory.now) (file_of self.now.directory.now (first_name self.now.table.now i)) result }
+    {
+        let name = rows::part(self.table, lookups::SYSTEM * i + 23, directory::NAME);
+        directory::find(self.directory, name)
+    }
+
+    // System i fits, and its option map is this one.
+    fn fits_exactly(&self, i: usize, options: &[u8]) -> bool
+        requires { i < system_rows self.now.table.now }
+        ensures { result ≡ fits_exactly self.now.table.now self.now.directory.now self.now.wanted self.now.product options.now i }
+    {
+        self.is_suited(i)
+            && self.first_file(i).is_some()
+            && rows::is_same(rows::part(self.table, lookups::SYSTEM * i + 17, 6), options)
+    }
+
+    // The first system that fits exactly.
+    fn find_exact(&self, options: &[u8]) -> Option<usize>
+        ensures { Finds (system_rows self.now.table.now) (first (fits_exactly self.now.table.now self.now.directory.now self.now.wanted self.now.product options.now) (system_rows self.now.table.now)) result }
+    {
+        for i in 0..self.table.len() / lookups::SYSTEM {
+            if self.fits_exactly(i, options) {
+                return Some(i);
+            }
+        }
+        None
+    }
+
+    // The size of system i, the length of the file that its first name is, where it fits.
+    fn size_of(&self, i: usize) -> Option<u16>
+        requires { i < system_rows self.now.table.now }
+        ensures { Weighs (fits self.now.table.now self.now.directory.now self.now.wanted self.now.product i) (system_size self.now.table.now self.now.directory.now i) result }
+    {
+        if !self.is_suited(i) {
+            return None;
+        }
+        let file = self.first_file(i)?;
+        Some(directory::length_of(self.directory, file))
+    }
+
+    // The smallest system that fits, the lower row on a tie.
+    fn find_smallest(&self) -> Option<usize>
+        ensures { Finds (system_rows self.now.table.now) (smallest (fits self.now.table.now self.now.directory.now self.now.wanted self.now.product) (system_size self.now.table.now self.now.directory.now) (system_rows self.now.table.now)) result }
+    {
+        let mut best: Option<(usize, u16)> = None;
+        for i in 0..self.table.len() / lookups::SYSTEM {
+            if let Some(size) = self.size_of(i) {
+                if best.is_none_or(|(_, least)| size < least) {
+                    best = Some((i, size));
+                }
+            }
+        }
+        best.map(|(row, _)| row)
+    }
+}
+
+impl<'a> Tables<'a> {
+    // The choice for the user of row u at the machine of row m, whose product is row p.
+    pub(crate) fn choose(&self, m: usize, p: usize, u: usize) -> Choice<'a>
+        requires { (m < machine_rows self.now.machines.now) × (p < product_rows self.now.products.now) × (u < user_rows self.now.users.now) }
+        ensures { (names_of result ≡ chosen_for (tables_of self.now) m p u) × (length result.names.now ≤ 64) }
+    {
+        let machine = rows::part(self.machines, lookups::MACHINE * m, lookups::MACHINE);
+        let user = rows::part(self.users, lookups::USER * u, lookups::USER);
+        let systems = Systems {
+            table: self.systems,
+            directory: self.directory,
+            wanted: user[14],
+            product: machine[4],
+        };
+        if user[15] % 2 == 0 {
+            if let Some(i) = systems.find_exact(&machine[5..11]) {
+                return Choice {
+                    honor: Honor::Exact,
+                    names: load_list(self.systems, i),
+                };
+            }
+        }
+        match systems.find_smallest() {
+            Some(i) => Choice {
+                honor: Honor::Smallest,
+                names: load_list(self.systems, i),
+            },
+            None => Choice {
+                honor: Honor::Menu,
+                names: rows::part(self.products, lookups::PRODUCT * p + 17, 8),
+            },
+        }
+    }
 }

@@ -2,20 +2,13 @@
 use Rattle.std.specs.Prelude.{ℕ, cond, not, List, eqb, ltb, length}
 use Rattle.rows.specs.Outcomes.{Leaves}
 use Rattle.rows.specs.Rows.{over}
-use Rattle.params.specs.declared.CpmParameters.{CpmParameters}
-use Rattle.params.specs.declared.CpmParameters.TheVariants.{Refused, Given}
-use Rattle.params.specs.declared.MsdosParameters.{MsdosParameters}
-use Rattle.params.specs.declared.MsdosParameters.TheVariants.{Refused as RefusedDos, Given as GivenDos}
 use Rattle.params.specs.declared.System.{System}
 use Rattle.params.specs.Tables.{sized}
-use Rattle.params.specs.Blocks.{cpm_block, msdos_block, block_bytes}
+use Rattle.params.specs.Blocks.{block_bytes}
 
--- 16 for another size code; otherwise its block
-unfoldable pub cpm_parameters : ℕ → CpmParameters
-cpm_parameters n = cond (sized n) (Given (cpm_block n)) (Refused 16)
-
-unfoldable pub msdos_parameters : ℕ → MsdosParameters
-msdos_parameters n = cond (sized n) (GivenDos (msdos_block n)) (RefusedDos 16)
+-- 16 for another size code; 0 for none
+unfoldable pub size_refusal : ℕ → ℕ
+size_refusal n = cond (sized n) 0 16
 
 -- writing: 13 where the buffer is shorter than 15 bytes, but 16 before that for another size code
 unfoldable pub room_refusal : List ℕ → ℕ

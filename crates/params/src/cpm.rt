@@ -1,9 +1,7 @@
 // CP/M 2.2: the table, and its rows as blocks and as bytes.
-ghost use Rattle.std.specs.Prelude.{◌≡◌, true};
-ghost use Rattle.params.specs.Tables.{sized};
 ghost use Rattle.params.specs.Blocks.{cpm_block, cpm_bytes};
 
-use crate::{CpmBlock, high, low, row_of};
+use crate::{BYTES, Block, CpmBlock, row_of};
 
 // SPT, BSH, BLM, EXM, DSM, DRM, AL0, AL1, CKS, OFF.
 #[derive(Clone, Copy)]
@@ -18,46 +16,36 @@ const TABLE: [CpmRow; 6] = [
     CpmRow(128, 5, 31, 1, 2047, 1023, 0xFF, 0x00, 256, 0),
 ];
 
-// The block of a size code.
-pub fn block_of(size: u32) -> CpmBlock
-    requires { sized size ≡ true }
-    ensures { result ≡ cpm_block size }
-{
-    let i = row_of(size);
-    let row = TABLE[i];
-    CpmBlock {
-        spt: row.0,
-        bsh: row.1,
-        blm: row.2,
-        exm: row.3,
-        dsm: row.4,
-        drm: row.5,
-        al0: row.6,
-        al1: row.7,
-        cks: row.8,
-        off: row.9,
-    }
-}
+impl Block for CpmBlock {
+    ghost block = { cpm_block };
 
-// The block in bytes.
-pub fn bytes_of(block: CpmBlock) -> [u8; 15]
-    ensures { result ≡ cpm_bytes block }
-{
-    [
-        low(block.spt),
-        high(block.spt),
-        block.bsh,
-        block.blm,
-        block.exm,
-        low(block.dsm),
-        high(block.dsm),
-        low(block.drm),
-        high(block.drm),
-        block.al0,
-        block.al1,
-        low(block.cks),
-        high(block.cks),
-        low(block.off),
-        high(block.off),
-    ]
+    ghost laid = { cpm_bytes };
+
+    fn of_size(size: u32) -> CpmBlock {
+        let row = TABLE[row_of(size)];
+        CpmBlock {
+            spt: row.0,
+            bsh: row.1,
+            blm: row.2,
+            exm: row.3,
+            dsm: row.4,
+            drm: row.5,
+            al0: row.6,
+            al1: row.7,
+            cks: row.8,
+            off: row.9,
+        }
+    }
+
+    fn to_bytes(self) -> [u8; BYTES] {
+        let [spt_low, spt_high] = self.spt.to_le_bytes();
+        let [dsm_low, dsm_high] = self.dsm.to_le_bytes();
+        let [drm_low, drm_high] = self.drm.to_le_bytes();
+        let [cks_low, cks_high] = self.cks.to_le_bytes();
+        let [off_low, off_high] = self.off.to_le_bytes();
+        [
+            spt_low, spt_high, self.bsh, self.blm, self.exm, dsm_low, dsm_high, drm_low, drm_high,
+            self.al0, self.al1, cks_low, cks_high, off_low, off_high,
+        ]
+    }
 }

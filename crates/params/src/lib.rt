@@ -5,17 +5,19 @@
 mod cpm;
 mod msdos;
 
-ghost use Rattle.std.specs.Prelude.{◌≡◌, true, ◌-◌, ◌/◌, ◌%◌, ◌<◌};
-ghost use Rattle.rows.specs.Outcomes.{Gives};
+ghost use Rattle.std.specs.Prelude.{◌≡◌, ℕ, List, true, ◌-◌, ◌<◌};
+ghost use Rattle.refusals.specs.Outcomes.{refusal_in, GivesUnless};
 ghost use Rattle.params.specs.Tables.{sized};
-ghost use Rattle.params.specs.Blocks.{block_bytes};
-ghost use Rattle.params.specs.Answers.{cpm_parameters, msdos_parameters, room_refusal, Puts, Writes};
+ghost use Rattle.params.specs.Blocks.{cpm_block, msdos_block};
+ghost use Rattle.params.specs.Answers.{size_refusal, write_refusal, Puts, Writes};
+
+use refusals::Refusal;
 
 // How many bytes each block has.
 pub const BYTES: usize = 15;
 
 // CP/M 2.2's disk parameter block.
-#[derive(Clone, Copy)]
+#[derive(Clone, Copy, Debug, PartialEq, Eq)]
 pub struct CpmBlock {
     pub spt: u16,
     pub bsh: u8,
@@ -30,7 +32,7 @@ pub struct CpmBlock {
 }
 
 // MS-DOS 2.0's parameter block up to sectors per track.
-#[derive(Clone, Copy)]
+#[derive(Clone, Copy, Debug, PartialEq, Eq)]
 pub struct MsdosBlock {
     pub bytes_per_sector: u16,
     pub sectors_per_cluster: u8,
@@ -44,23 +46,26 @@ pub struct MsdosBlock {
 }
 
 // The systems that have a block.
-#[derive(Clone, Copy)]
+#[derive(Clone, Copy, Debug, PartialEq, Eq)]
 pub enum System {
     Cpm,
     Msdos,
 }
 
-// What a size code is answered: 16, or its block.
-#[derive(Clone, Copy)]
-pub enum CpmParameters {
-    Refused(u8),
-    Given(CpmBlock),
-}
+// A block of disk parameters: a row of a constant table as a record, and the record as bytes.
+pub trait Block: Copy {
+    ghost block: { ℕ → Self };
 
-#[derive(Clone, Copy)]
-pub enum MsdosParameters {
-    Refused(u8),
-    Given(MsdosBlock),
+    ghost laid: { Self → List ℕ };
+
+    // The block of a size code 1 to 6.
+    fn of_size(size: u32) -> Self
+        requires { sized size ≡ true }
+        ensures { result ≡ block size };
+
+    // The block in bytes.
+    fn to_bytes(self) -> [u8; BYTES]
+        ensures { result ≡ laid self };
 }
 
 // The number is a size code.
@@ -81,67 +86,48 @@ fn row_of(size: u32) -> usize
     (size - 1) as usize
 }
 
-// The two bytes of a number.
-fn low(x: u16) -> u8
-    ensures { result ≡ x % 256 }
+// The block of a size code; 16 for another number.
+fn parameters<B: Block>(size: u32) -> Result<B, Refusal>
+    ensures { GivesUnless (size_refusal size) (B.block size) result }
 {
-    (x % 256) as u8
-}
-
-fn high(x: u16) -> u8
-    ensures { result ≡ x / 256 % 256 }
-{
-    (x / 256 % 256) as u8
+    if !is_size(size) {
+        return Err(Refusal::NoSuchSize);
+    }
+    Ok(B::of_size(size))
 }
 
 // CP/M's parameters of a size code; 16 for another number.
-pub fn cpm_parameters(size: u32) -> CpmParameters
-    ensures { Gives (cpm_parameters size) result }
+pub fn cpm_parameters(size: u32) -> Result<CpmBlock, Refusal>
+    ensures { GivesUnless (size_refusal size) (cpm_block size) result }
 {
-    if !is_size(size) {
-        return CpmParameters::Refused(16);
-    }
-    CpmParameters::Given(cpm::block_of(size))
+    parameters(size)
 }
 
 // MS-DOS's parameters of a size code; 16 for another number.
-pub fn msdos_parameters(size: u32) -> MsdosParameters
-    ensures { Gives (msdos_parameters size) result }
+pub fn msdos_parameters(size: u32) -> Result<MsdosBlock, Refusal>
+    ensures { GivesUnless (size_refusal size) (msdos_block size) result }
 {
-    if !is_size(size) {
-        return MsdosParameters::Refused(16);
-    }
-    MsdosParameters::Given(msdos::block_of(size))
+    parameters(size)
 }
 
-// Puts a block down at the start of the buffer; 13 where the buffer is shorter, and then nothing is written.
-fn put_block(block: [u8; 15], buffer: &mut [u8]) -> u8
-    ensures { Puts (room_refusal buffer.old) block buffer.old result buffer.new }
+// Puts the block of a size code down at the start of the buffer; 13 where the buffer is shorter, and then nothing is written.
+fn put_block<B: Block>(size: u32, buffer: &mut [u8]) -> Result<(), Refusal>
+    ensures { Puts (write_refusal size buffer.old) (B.laid (B.block size)) buffer.old (refusal_in result) buffer.new }
 {
+    let block = parameters::<B>(size)?;
     if buffer.len() < BYTES {
-        return 13;
+        return Err(Refusal::ShortBuffer);
     }
-    rows::put(buffer, 0, &block);
-    0
+    rows::put(buffer, 0, &block.to_bytes());
+    Ok(())
 }
 
-// The bytes of a system's block of a size code.
-fn block_bytes(system: System, size: u32) -> [u8; 15]
-    requires { sized size ≡ true }
-    ensures { result ≡ block_bytes system size }
+// Writes a system's block of a size code at the start of the buffer: 16, 13, or it is written.
+pub fn write(system: System, size: u32, buffer: &mut [u8]) -> Result<(), Refusal>
+    ensures { Writes system size buffer.old (refusal_in result) buffer.new }
 {
     match system {
-        System::Cpm => cpm::bytes_of(cpm::block_of(size)),
-        System::Msdos => msdos::bytes_of(msdos::block_of(size)),
+        System::Cpm => put_block::<CpmBlock>(size, buffer),
+        System::Msdos => put_block::<MsdosBlock>(size, buffer),
     }
-}
-
-// Writes a system's block of a size code at the start of the buffer: 16, 13, or 0 where it is written.
-pub fn write(system: System, size: u32, buffer: &mut [u8]) -> u8
-    ensures { Writes system size buffer.old result buffer.new }
-{
-    if !is_size(size) {
-        return 16;
-    }
-    put_block(block_bytes(system, size), buffer)
 }

@@ -1,9 +1,7 @@
 // MS-DOS 2.0: the table, and its rows as blocks and as bytes.
-ghost use Rattle.std.specs.Prelude.{◌≡◌, true};
-ghost use Rattle.params.specs.Tables.{sized};
 ghost use Rattle.params.specs.Blocks.{msdos_block, msdos_bytes};
 
-use crate::{MsdosBlock, high, low, row_of};
+use crate::{BYTES, Block, MsdosBlock, row_of};
 
 // Bytes per sector, sectors per cluster, reserved sectors, FATs, root entries, sectors, media, sectors per FAT, sectors per
 // track.
@@ -19,45 +17,49 @@ const TABLE: [MsdosRow; 6] = [
     MsdosRow(128, 32, 1, 2, 256, 65535, 5, 24, 128),
 ];
 
-// The block of a size code.
-pub fn block_of(size: u32) -> MsdosBlock
-    requires { sized size ≡ true }
-    ensures { result ≡ msdos_block size }
-{
-    let i = row_of(size);
-    let row = TABLE[i];
-    MsdosBlock {
-        bytes_per_sector: row.0,
-        sectors_per_cluster: row.1,
-        reserved_sectors: row.2,
-        fats: row.3,
-        root_entries: row.4,
-        sectors: row.5,
-        media: row.6,
-        sectors_per_fat: row.7,
-        sectors_per_track: row.8,
-    }
-}
+impl Block for MsdosBlock {
+    ghost block = { msdos_block };
 
-// The block in bytes.
-pub fn bytes_of(block: MsdosBlock) -> [u8; 15]
-    ensures { result ≡ msdos_bytes block }
-{
-    [
-        low(block.bytes_per_sector),
-        high(block.bytes_per_sector),
-        block.sectors_per_cluster,
-        low(block.reserved_sectors),
-        high(block.reserved_sectors),
-        block.fats,
-        low(block.root_entries),
-        high(block.root_entries),
-        low(block.sectors),
-        high(block.sectors),
-        block.media,
-        low(block.sectors_per_fat),
-        high(block.sectors_per_fat),
-        low(block.sectors_per_track),
-        high(block.sectors_per_track),
-    ]
+    ghost laid = { msdos_bytes };
+
+    fn of_size(size: u32) -> MsdosBlock {
+        let row = TABLE[row_of(size)];
+        MsdosBlock {
+            bytes_per_sector: row.0,
+            sectors_per_cluster: row.1,
+            reserved_sectors: row.2,
+            fats: row.3,
+            root_entries: row.4,
+            sectors: row.5,
+            media: row.6,
+            sectors_per_fat: row.7,
+            sectors_per_track: row.8,
+        }
+    }
+
+    fn to_bytes(self) -> [u8; BYTES] {
+        let [bytes_per_sector_low, bytes_per_sector_high] = self.bytes_per_sector.to_le_bytes();
+        let [reserved_sectors_low, reserved_sectors_high] = self.reserved_sectors.to_le_bytes();
+        let [root_entries_low, root_entries_high] = self.root_entries.to_le_bytes();
+        let [sectors_low, sectors_high] = self.sectors.to_le_bytes();
+        let [sectors_per_fat_low, sectors_per_fat_high] = self.sectors_per_fat.to_le_bytes();
+        let [sectors_per_track_low, sectors_per_track_high] = self.sectors_per_track.to_le_bytes();
+        [
+            bytes_per_sector_low,
+            bytes_per_sector_high,
+            self.sectors_per_cluster,
+            reserved_sectors_low,
+            reserved_sectors_high,
+            self.fats,
+            root_entries_low,
+            root_entries_high,
+            sectors_low,
+            sectors_high,
+            self.media,
+            sectors_per_fat_low,
+            sectors_per_fat_high,
+            sectors_per_track_low,
+            sectors_per_track_high,
+        ]
+    }
 }

@@ -1,12 +1,10 @@
 -- The faults of a site file, and the first of them (02, Req 01).
-use Rattle.std.specs.Prelude.{ℕ, ◌≡◌, Bool, true, false, cond, not, ◌&&◌, ◌||◌, List, eqb, ltb}
+use Rattle.std.specs.Prelude.{ℕ, ◌≡◌, Bool, true, false, cond, not, ◌&&◌, ◌||◌, List, Result, Ok, Err, eqb, ltb}
 use Rattle.rows.specs.Words.{first, fails}
 use Rattle.site.specs.declared.Breach.{Breach}
 use Rattle.site.specs.declared.Breach.TheVariants.{Range, Name, Number, Overlap}
 use Rattle.site.specs.declared.Fault.{Fault}
 use Rattle.site.specs.declared.Fault.TheVariants.{InHeader, InUser, InPartition}
-use Rattle.site.specs.declared.Checked.{Checked}
-use Rattle.site.specs.declared.Checked.TheVariants.{Good, Faulty}
 use Rattle.site.specs.Layout.{users, partitions, users_from, partitions_from, name_at, partition_row}
 use Rattle.site.specs.Rules.{good_header, user_named, partition_named, name_alone, good_user, sound, partition_numbered, number_alone, partitions_overlap, apart, good_partition, good_site}
 
@@ -66,8 +64,8 @@ first_fault f =
     (InPartition (first_partition f) (breach_at f (first_partition f))))
 
 -- what the check gives
-unfoldable pub checked : List ℕ → Checked
-checked f = cond (good_site f) Good (Faulty (first_fault f))
+unfoldable pub checked : List ℕ → Result (Unit {0}) Fault
+checked f = cond (good_site f) (Ok tt) (Err (first_fault f))
 
 -- the same, said of any fault. A fault is there
 unfoldable pub there : List ℕ → Fault → Bool

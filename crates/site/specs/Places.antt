@@ -1,15 +1,26 @@
 -- The place of an address.
-use Rattle.std.specs.Prelude.{ℕ, ◌+◌, ◌-◌, ◌*◌, Bool, cond, ◌&&◌, List, leb, ltb}
+use Rattle.std.specs.Prelude.{ℕ, ◌+◌, ◌-◌, ◌*◌, Bool, cond, ◌&&◌, List, Result, Ok, Err, leb, ltb}
+use Rattle.refusals.specs.Refusals.{number}
 use Rattle.terms.specs.declared.Address.{Address}
 use Rattle.terms.specs.declared.Place.{Place}
 use Rattle.site.specs.declared.PartitionRow.{PartitionRow}
-use Rattle.site.specs.declared.Placed.{Placed}
-use Rattle.site.specs.declared.Located.{Located}
-use Rattle.site.specs.declared.Located.TheVariants.{At, Faulty}
+use Rattle.site.specs.declared.Fault.{Fault}
+use Rattle.site.specs.declared.Refused.{Refused}
+use Rattle.site.specs.declared.Refused.TheVariants.{Site, By}
 use Rattle.site.specs.Layout.{partitions, partition_row}
 use Rattle.site.specs.Rules.{tracks, good_site}
 use Rattle.site.specs.Faults.{first_fault}
 use Rattle.site.specs.Found.{index_of_number}
+
+-- a refusal and no place, or 0 and the place
+pub record Placed : Type 0 where
+  pub refusal : ℕ
+  pub place : Place
+
+-- what the place of an address is answered in any file: the file's first fault, or the place and its refusals
+pub data Located : Type 0 where
+  Faulty : Fault → Located
+  At : Placed → Located
 
 -- the track is below the row's tracks and the sector is 1 to 128
 unfoldable pub inside : PartitionRow → Address → Bool
@@ -36,3 +47,14 @@ placed_in f a =
 -- 10 the site file, with its first fault; then as above
 unfoldable pub placed_by : List ℕ → Address → Located
 placed_by f a = cond (good_site f) (At (placed_in f a)) (Faulty (first_fault f))
+
+-- what the typed answer says of these: no two answers say the same
+unfoldable pub located : Result Place Refused → Located
+located (Ok place) = At (record { refusal = 0; place = place })
+located (Err (Site x)) = Faulty x
+located (Err (By r)) = At (refused (number r))
+
+-- the number of a refusal: that of a file with a fault is 10
+abbrev pub refused_number : Refused → ℕ
+refused_number (Site x) = 10
+refused_number (By r) = number r

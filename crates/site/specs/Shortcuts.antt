@@ -1,13 +1,12 @@
 -- What the checks keep of the rows that went by, so as to compare a row with them only where it must be, and the words of the check's
 -- inner contracts. No rule names these words.
-use Rattle.std.specs.Prelude.{ℕ, ◌+◌, ◌*◌, ◌/◌, ◌%◌, ◌<◌, max, Bool, cond, List, leb, ltb, get_or, set}
+use Rattle.std.specs.Prelude.{ℕ, ◌+◌, ◌*◌, ◌/◌, ◌%◌, ◌<◌, max, Bool, cond, List, Result, Ok, Err, leb, ltb, get_or, set}
 use Rattle.rows.specs.Marks.{hash}
 use Rattle.rows.specs.Words.{first, fails}
 use Rattle.terms.specs.Shortcuts.{name_solid}
 use Rattle.site.specs.declared.PartitionRow.{PartitionRow}
 use Rattle.site.specs.declared.Fault.TheVariants.{InPartition}
-use Rattle.site.specs.declared.Checked.{Checked}
-use Rattle.site.specs.declared.Checked.TheVariants.{Good, Faulty}
+use Rattle.site.specs.declared.Fault.{Fault}
 use Rattle.site.specs.Layout.{partitions, partitions_from, partition_row}
 use Rattle.site.specs.Faults.{breach_at, first_partition}
 use Rattle.site.specs.Rules.{sectors, sound, name_alone, number_alone, apart}
@@ -48,8 +47,8 @@ unfoldable pub left_by_overlap : List ℕ → ℕ
 left_by_overlap f = first (fails (apart f)) (left_by_number f)
 
 -- the partition rows by themselves: all good, or the first that is not
-unfoldable pub checked_partitions : List ℕ → Checked
+unfoldable pub checked_partitions : List ℕ → Result (Unit {0}) Fault
 checked_partitions f =
     cond (ltb (first_partition f) (partitions f))
-    (Faulty (InPartition (first_partition f) (breach_at f (first_partition f))))
-    Good
+    (Err (InPartition (first_partition f) (breach_at f (first_partition f))))
+    (Ok tt)

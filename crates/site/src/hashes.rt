@@ -23,5 +23,5 @@ pub fn number_hash(file: &[u8], from: usize, i: usize) -> usize
     ensures { (result ≡ number_hash file.now i) × (result < 256) }
 {
     let at = from + layout::PARTITION * i;
-    (64 * rows::index_of(file[at + 14]) + rows::index_of(file[at + 15])) % 256
+    (64 * usize::from(file[at + 14]) + usize::from(file[at + 15])) % 256
 }

@@ -4,6 +4,7 @@ ghost use Rattle.rows.specs.Words.{same};
 ghost use Rattle.site.specs.Layout.{users as users_of, partitions as partitions_of, partitions_from, name_at, password_at, partition_row};
 
 use crate::PartitionRow;
+use rows::LowFirst;
 use terms::{Partition, Volume};
 
 // Where the user rows begin, how long one is, and how long a partition row is.
@@ -17,14 +18,14 @@ pub fn users(file: &[u8]) -> usize
     requires { 8 ≤ length file.now }
     ensures { (result ≡ users_of file.now) × (result < 65536) }
 {
-    rows::two_at(file, 0) as usize
+    usize::from(u16::low_first_at(file, 0))
 }
 
 pub fn partitions(file: &[u8]) -> usize
     requires { 8 ≤ length file.now }
     ensures { (result ≡ partitions_of file.now) × (result < 65536) }
 {
-    rows::two_at(file, 4) as usize
+    usize::from(u16::low_first_at(file, 4))
 }
 
 // Where the partition rows begin.
@@ -61,7 +62,7 @@ pub fn row_of(file: &[u8], from: usize, i: usize) -> PartitionRow
     let partition = Partition(file[at + 15]);
     let size = file[at + 16];
     let control = file[at + 17];
-    let first = rows::four_at(file, at + 18);
+    let first = u32::low_first_at(file, at + 18);
     PartitionRow {
         volume,
         partition,
@@ -75,5 +76,5 @@ pub fn row_of(file: &[u8], from: usize, i: usize) -> PartitionRow
 pub fn first_of(file: &[u8], from: usize, i: usize) -> u32
     requires { from + 24 * i + 24 ≤ length file.now }
 {
-    rows::four_at(file, from + PARTITION * i + 18)
+    u32::low_first_at(file, from + PARTITION * i + 18)
 }

@@ -10,16 +10,21 @@ mod rules;
 mod search;
 mod sizes;
 
-ghost use Rattle.std.specs.Prelude.{◌≡◌, true, ◌<◌};
+ghost use Rattle.std.specs.Prelude.{◌≡◌, true, ◌<◌, Err};
 ghost use Rattle.rows.specs.Words.{same};
-ghost use Rattle.rows.specs.Outcomes.{Gives};
+ghost use Rattle.rows.specs.Outcomes.{Gives, Finds};
+ghost use Rattle.refusals.specs.Refusals.{number};
+ghost use Rattle.refusals.specs.Outcomes.{GivesUnless};
+ghost use Rattle.site.specs.declared.Refused.TheVariants.{Site, By};
 ghost use Rattle.site.specs.Layout.{partitions, partition_row, partition_password};
-ghost use Rattle.site.specs.declared.Checked.TheVariants.{Faulty};
 ghost use Rattle.site.specs.Rules.{good_site, ranged};
-ghost use Rattle.site.specs.Faults.{checked, earlier_row};
+ghost use Rattle.site.specs.Faults.{checked, fault_row, earlier_row};
 ghost use Rattle.site.specs.Found.{has_user, index_of_name, index_of_number};
-ghost use Rattle.site.specs.Places.{refused as refused_by, placed_on, placed_in, placed_by};
+ghost use Rattle.site.specs.Places.{placed_on, placed_in, placed_by, located, refused_number};
 
+use refusals::Refusal;
+use std::error::Error;
+use std::fmt;
 use terms::{Address, Partition, Place, Volume};
 
 // Room to read a file into: one byte more than the longest good one has, so that a longer one is seen to be too long.
@@ -36,7 +41,7 @@ pub struct PartitionRow {
 }
 
 // What is wrong with a row: a range, a repeated name, a repeated volume and number, an overlap.
-#[derive(Clone, Copy)]
+#[derive(Clone, Copy, Debug, PartialEq, Eq)]
 pub enum Breach {
     Range,
     Name,
@@ -45,45 +50,74 @@ pub enum Breach {
 }
 
 // A fault of a file: in its header, in a user row or in a partition row, by the row's index.
-#[derive(Clone, Copy)]
+#[derive(Clone, Copy, Debug, PartialEq, Eq)]
 pub enum Fault {
     InHeader,
     InUser(u8),
     InPartition(u8, Breach),
 }
 
-// What the check of a file gives: it is good, or its first fault.
-#[derive(Clone, Copy)]
-pub enum Checked {
-    Good,
-    Faulty(Fault),
+// Why an address has no place in a file: the file's first fault, or a refusal of the address.
+#[derive(Clone, Copy, Debug, PartialEq, Eq)]
+pub enum Refused {
+    Site(Fault),
+    By(Refusal),
 }
 
-// A refusal and no place, or 0 and the place.
-#[derive(Clone, Copy)]
-pub struct Placed {
-    pub refusal: u8,
-    pub place: Place,
+impl Refused {
+    // The refusal, whose number the C program is told.
+    pub fn refusal(self) -> Refusal
+        ensures { number result ≡ refused_number self }
+    {
+        match self {
+            Refused::Site(_) => Refusal::BadSiteFile,
+            Refused::By(refusal) => refusal,
+        }
+    }
+
+    // Its number.
+    pub fn number(self) -> u8
+        ensures { result ≡ refused_number self }
+    {
+        self.refusal().number()
+    }
 }
 
-// What the place of an address is answered in any file: the file's first fault, or the place and its refusals.
-#[derive(Clone, Copy)]
-pub enum Located {
-    Faulty(Fault),
-    At(Placed),
+impl fmt::Display for Refused {
+    fn fmt<W: fmt::Write>(&self, f: &mut fmt::Formatter<W>) -> fmt::Result {
+        self.refusal().fmt(f)
+    }
+}
+
+impl Error for Refused {}
+
+impl From<Fault> for Refused {
+    ghost from_gives = { λ x e. e ≡ Site x };
+
+    fn from(fault: Fault) -> Refused {
+        Refused::Site(fault)
+    }
+}
+
+impl From<Refusal> for Refused {
+    ghost from_gives = { λ r e. e ≡ By r };
+
+    fn from(refusal: Refusal) -> Refused {
+        Refused::By(refusal)
+    }
 }
 
 // The site file keeps every rule, or its first fault; refusal 10 where it has one.
-pub fn check(file: &[u8]) -> Checked
+pub fn check(file: &[u8]) -> Result<(), Fault>
     ensures { Gives (checked file.now) result }
 {
     if !rules::header_good(file) {
-        return Checked::Faulty(Fault::InHeader);
+        return Err(Fault::InHeader);
     }
     let n = layout::users(file);
     let i = rules::first_name_repeated(file, layout::USERS_FROM, layout::USER, n);
     if i < n {
-        return Checked::Faulty(Fault::InUser(i as u8));
+        return Err(Fault::InUser(i as u8));
     }
     rules::check_partitions(file)
 }
@@ -92,25 +126,24 @@ pub fn check(file: &[u8]) -> Checked
 pub fn is_good(file: &[u8]) -> bool
     ensures { Gives (good_site file.now) result }
 {
-    let checked = check(file);
-    match checked {
-        Checked::Good => true,
-        Checked::Faulty(_) => false,
-    }
+    check(file).is_ok()
 }
 
-// The earlier row of a clashing pair, where `check` has named the later one: the first row that clashes with it. The row
-// named where the fault is no clash.
-pub fn earlier_row(file: &[u8], fault: Fault) -> usize
-    requires { checked file.now ≡ Faulty fault }
-    ensures { Gives (earlier_row file.now fault) result }
+// The earlier row of a clashing pair, where `check` has named the later one: the first row that clashes with it. None where
+// the fault is no clash.
+pub fn earlier_row(file: &[u8], fault: Fault) -> Option<usize>
+    requires { checked file.now ≡ Err fault }
+    ensures { Finds (fault_row fault) (earlier_row file.now fault) result }
 {
     match fault {
-        Fault::InHeader => 0,
-        Fault::InUser(row) => {
-            search::earlier_name(file, layout::USERS_FROM, layout::USER, row as usize)
-        }
-        Fault::InPartition(row, breach) => search::earlier_clash(file, row as usize, breach),
+        Fault::InHeader => None,
+        Fault::InUser(row) => search::earlier_name(
+            file,
+            layout::USERS_FROM,
+            layout::USER,
+            usize::from(row),
+        ),
+        Fault::InPartition(row, breach) => search::earlier_clash(file, usize::from(row), breach),
     }
 }
 
@@ -120,17 +153,16 @@ pub fn has_user(file: &[u8], name: [u8; 8], password: [u8; 6]) -> bool
     ensures { Gives (has_user file.now name password) result }
 {
     let n = layout::users(file);
-    let i = search::find_name(file, layout::USERS_FROM, layout::USER, n, &name);
-    if n <= i {
-        return false;
+    match search::find_name(file, layout::USERS_FROM, layout::USER, n, &name) {
+        Some(i) => layout::password_is(file, layout::USERS_FROM, layout::USER, i, &password),
+        None => false,
     }
-    layout::password_is(file, layout::USERS_FROM, layout::USER, i, &password)
 }
 
-// The index of the partition row with this name, or the number of partitions.
-pub fn partition_named(file: &[u8], name: [u8; 8]) -> usize
+// The index of the partition row with this name.
+pub fn partition_named(file: &[u8], name: [u8; 8]) -> Option<usize>
     requires { good_site file.now ≡ true }
-    ensures { Gives (index_of_name file.now name) result }
+    ensures { Finds (partitions file.now) (index_of_name file.now name) result }
 {
     let n = layout::partitions(file);
     search::find_name(
@@ -142,10 +174,10 @@ pub fn partition_named(file: &[u8], name: [u8; 8]) -> usize
     )
 }
 
-// The index of the partition row with this volume and number, or the number of partitions.
-pub fn partition_numbered(file: &[u8], volume: Volume, partition: Partition) -> usize
+// The index of the partition row with this volume and number.
+pub fn partition_numbered(file: &[u8], volume: Volume, partition: Partition) -> Option<usize>
     requires { good_site file.now ≡ true }
-    ensures { Gives (index_of_number file.now volume partition) result }
+    ensures { Finds (partitions file.now) (index_of_number file.now volume partition) result }
 {
     let n = layout::partitions(file);
     search::find_number(file, layout::partitions_from(file), n, volume, partition)
@@ -181,55 +213,37 @@ pub fn partition_password_is(file: &[u8], i: usize, password: [u8; 6]) -> bool
     )
 }
 
-fn refused(refusal: u8) -> Placed
-    ensures { result ≡ refused_by refusal }
-{
-    let place = Place {
-        volume: Volume(0),
-        sector: 0,
-    };
-    Placed { refusal, place }
-}
-
-// 9, or the place on this row.
-fn place_on(row: PartitionRow, address: Address) -> Placed
+// The place on this row; 9 where the address lies outside it.
+fn place_on(row: PartitionRow, address: Address) -> Result<Place, Refusal>
     requires { ranged row ≡ true }
-    ensures { result ≡ placed_on row address }
+    ensures { GivesUnless (placed_on row address).refusal (placed_on row address).place result }
 {
     if !sizes::is_inside(row.size, address) {
-        return refused(9);
+        return Err(Refusal::OutsidePartition);
     }
-    let track = address.track.0 as u32;
-    let sector = address.sector.0 as u32;
-    let volume = row.volume;
-    let place = Place {
-        volume,
+    let track = u32::from(address.track.0);
+    let sector = u32::from(address.sector.0);
+    Ok(Place {
+        volume: row.volume,
         sector: row.first + track * 128 + sector - 1,
-    };
-    Placed { refusal: 0, place }
+    })
 }
 
-// 8, 9 or the place of an address, in a good file.
-pub fn place_in(file: &[u8], address: Address) -> Placed
+// The place of an address in a good file; 8 or 9 where it has none.
+pub fn place_in(file: &[u8], address: Address) -> Result<Place, Refusal>
     requires { good_site file.now ≡ true }
-    ensures { Gives (placed_in file.now address) result }
+    ensures { GivesUnless (placed_in file.now address).refusal (placed_in file.now address).place result }
 {
-    let volume = address.volume;
-    let partition = address.partition;
-    let i = partition_numbered(file, volume, partition);
-    if i < partition_count(file) {
-        return place_on(partition_row(file, i), address);
-    }
-    refused(8)
+    let i = partition_numbered(file, address.volume, address.partition).ok_or(
+        Refusal::NoSuchPartition,
+    )?;
+    place_on(partition_row(file, i), address)
 }
 
-// The first fault of the file, 10; or 8, 9 or the place of an address.
-pub fn place(file: &[u8], address: Address) -> Located
-    ensures { Gives (placed_by file.now address) result }
+// The place of an address in any file; the file's first fault, 10, or 8 or 9 where it has none.
+pub fn place(file: &[u8], address: Address) -> Result<Place, Refused>
+    ensures { Gives (placed_by file.now address) (located result) }
 {
-    let checked = check(file);
-    match checked {
-        Checked::Good => Located::At(place_in(file, address)),
-        Checked::Faulty(fault) => Located::Faulty(fault),
-    }
+    check(file)?;
+    Ok(place_in(file, address)?)
 }

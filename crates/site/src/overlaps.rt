@@ -1,6 +1,6 @@
 // No two partitions on one volume overlap. The rows are walked in the order in which they begin, beside how far those of each
 // volume have reached: a row that begins there or later overlaps none of the rows before it.
-ghost use Rattle.std.specs.Prelude.{◌≡◌, true, ℕ, ◌+◌, ◌*◌, ◌≤◌, ◌<◌, max, length};
+ghost use Rattle.std.specs.Prelude.{◌≡◌, true, ℕ, ◌+◌, ◌*◌, ◌≤◌, ◌<◌, length};
 ghost use Rattle.rows.specs.Words.{all, first, fails};
 ghost use Rattle.site.specs.Layout.{partitions_from, partition_row};
 ghost use Rattle.site.specs.Rules.{ranged, apart};
@@ -11,22 +11,16 @@ use crate::{PartitionRow, layout, order, search, sizes};
 // So few rows are searched in less time than they are laid in order.
 const FEW: usize = 8;
 
-fn later(a: u32, b: u32) -> u32
-    ensures { result ≡ max a b }
-{
-    if a < b { b } else { a }
-}
-
 // Says whether row r begins where its volume's rows have ended, and takes its end in.
 fn pass(ends: &mut [u32; 4], r: PartitionRow) -> bool
     requires { ranged r ≡ true }
     ensures { (result ≡ past ends.old r) × (ends.new ≡ passing ends.old r) }
 {
-    let volume = rows::index_of(r.volume.0);
+    let volume = usize::from(r.volume.0);
     let first = r.first;
     let end = first + sizes::sectors(r.size);
     let old = ends[volume];
-    ends[volume] = later(old, end);
+    ends[volume] = old.max(end);
     old <= first
 }
 
@@ -37,13 +31,11 @@ fn walk(file: &[u8], from: usize, n: usize, order: &[u8]) -> bool
     ensures { result ≡ true → all (apart file.now) n ≡ true }
 {
     let mut ends = [0u32; 4];
-    let mut k: usize = 0;
-    while k < n {
-        let row = layout::row_of(file, from, rows::index_of(order[k]));
+    for k in 0..n {
+        let row = layout::row_of(file, from, usize::from(order[k]));
         if !pass(&mut ends, row) {
             return false;
         }
-        k += 1;
     }
     true
 }
@@ -54,13 +46,10 @@ fn search_all(file: &[u8], from: usize, n: usize) -> usize
     requires by_index { (i : ℕ) → i < n → ranged (partition_row file.now i) ≡ true }
     ensures { result ≡ first (fails (apart file.now)) n }
 {
-    let mut i: usize = 0;
-    while i < n {
-        let j = search::find_overlap(file, from, i);
-        if j < i {
+    for i in 0..n {
+        if search::find_overlap(file, from, i).is_some() {
             return i;
         }
-        i += 1;
     }
     n
 }

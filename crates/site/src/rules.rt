@@ -1,13 +1,13 @@
 // The rules of a site file, header first, then the user rows, then the partition rows.
-ghost use Rattle.std.specs.Prelude.{◌≡◌, true, false, ◌+◌, ◌*◌, ◌≤◌, ◌<◌, length};
+ghost use Rattle.std.specs.Prelude.{◌≡◌, true, false, ◌+◌, ◌*◌, ◌≤◌, ◌<◌, length, Err};
 ghost use Rattle.rows.specs.Words.{first, fails, zeros};
 ghost use Rattle.site.specs.declared.Fault.TheVariants.{InPartition};
-ghost use Rattle.site.specs.declared.Checked.TheVariants.{Faulty};
 ghost use Rattle.site.specs.Layout.{users, partitions, partitions_from, whole_length, spare_at};
 ghost use Rattle.site.specs.Rules.{good_header, name_alone, ranged, sound, number_alone};
 ghost use Rattle.site.specs.Shortcuts.{left_by_range, left_by_name, left_by_number, left_by_overlap, checked_partitions};
 
-use crate::{Breach, Checked, Fault, PartitionRow, hashes, layout, overlaps, search, sizes};
+use crate::{Breach, Fault, PartitionRow, hashes, layout, overlaps, search, sizes};
+use rows::LowFirst;
 
 // Counts, offsets and the length of the file.
 pub fn header_good(file: &[u8]) -> bool
@@ -24,11 +24,11 @@ pub fn header_good(file: &[u8]) -> bool
     if 64 < partitions {
         return false;
     }
-    if rows::two_at(file, 2) != 8 {
+    if u16::low_first_at(file, 2) != 8 {
         return false;
     }
     let from = layout::partitions_from(file);
-    if rows::two_at(file, 6) as usize != from {
+    if usize::from(u16::low_first_at(file, 6)) != from {
         return false;
     }
     file.len() == from + layout::PARTITION * partitions
@@ -44,7 +44,7 @@ fn name_alone(file: &[u8], from: usize, w: usize, i: usize, seen: bool) -> bool
     if !seen {
         return true;
     }
-    i <= search::earlier_name(file, from, w, i)
+    search::earlier_name(file, from, w, i).is_none()
 }
 
 // The first of n rows of w bytes that has the name of an earlier one, or n. The hash of each name is marked, and only a name
@@ -54,14 +54,12 @@ pub fn first_name_repeated(file: &[u8], from: usize, w: usize, n: usize) -> usiz
     ensures { result ≡ first (fails (name_alone file.now from w)) n }
 {
     let mut map = [0u32; 32];
-    let mut i: usize = 0;
-    while i < n {
+    for i in 0..n {
         let key = layout::name_at(file, from, w, i);
         let seen = rows::marks::mark(&mut map, hashes::name_hash(key));
         if !name_alone(file, from, w, i, seen) {
             return i;
         }
-        i += 1;
     }
     n
 }
@@ -113,7 +111,7 @@ fn number_alone(file: &[u8], from: usize, i: usize, seen: bool) -> bool
     if !seen {
         return true;
     }
-    i <= search::earlier_number(file, from, i)
+    search::earlier_number(file, from, i).is_none()
 }
 
 // The first of n partitions that has both volume and number of an earlier one, or n, by marks as above.
@@ -122,13 +120,11 @@ fn first_number_repeated(file: &[u8], from: usize, n: usize) -> usize
     ensures { result ≡ first (fails (number_alone file.now)) n }
 {
     let mut map = [0u32; 8];
-    let mut i: usize = 0;
-    while i < n {
+    for i in 0..n {
         let seen = rows::marks::mark(&mut map, hashes::number_hash(file, from, i));
         if !number_alone(file, from, i, seen) {
             return i;
         }
-        i += 1;
     }
     n
 }
@@ -138,12 +134,10 @@ fn first_unsound(file: &[u8], from: usize, n: usize) -> usize
     requires { (from ≡ partitions_from file.now) × (from + 24 * n ≤ length file.now) }
     ensures { result ≡ first (fails (sound file.now)) n }
 {
-    let mut i: usize = 0;
-    while i < n {
+    for i in 0..n {
         if !row_sound(file, from, i) {
             return i;
         }
-        i += 1;
     }
     n
 }
@@ -180,22 +174,22 @@ fn rows_left(file: &[u8]) -> Left
 }
 
 // A fault of partition row i.
-fn faulty(i: usize, breach: Breach) -> Checked
+fn faulty(i: usize, breach: Breach) -> Result<(), Fault>
     requires { i < 256 }
-    ensures { result ≡ Faulty (InPartition i breach) }
+    ensures { result ≡ Err (InPartition i breach) }
 {
-    Checked::Faulty(Fault::InPartition(i as u8, breach))
+    Err(Fault::InPartition(i as u8, breach))
 }
 
 // The first fault of the partition rows: where rows were taken away, the last rule that took some took them from the least
 // row on.
-pub fn check_partitions(file: &[u8]) -> Checked
+pub fn check_partitions(file: &[u8]) -> Result<(), Fault>
     requires { (length file.now ≡ whole_length file.now) × (partitions file.now ≤ 64) }
     ensures { result ≡ checked_partitions file.now }
 {
     let left = rows_left(file);
     if left.rows <= left.apart {
-        return Checked::Good;
+        return Ok(());
     }
     if left.apart < left.numbered {
         return faulty(left.apart, Breach::Overlap);

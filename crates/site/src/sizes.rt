@@ -9,7 +9,7 @@ pub fn tracks(size: u8) -> u32
     requires { (1 ≤ size) × (size ≤ 6) }
     ensures { (result ≡ tracks_of size) × (result ≤ 512) }
 {
-    8 << size as u32
+    8 << u32::from(size)
 }
 
 // Its sectors.
@@ -25,7 +25,7 @@ pub fn is_inside(size: u8, address: Address) -> bool
     requires { (1 ≤ size) × (size ≤ 6) }
     ensures { result ≡ ltb address.track.0 (tracks_of size) && (leb 1 address.sector.0 && leb address.sector.0 128) }
 {
-    let track = address.track.0 as u32;
+    let track = u32::from(address.track.0);
     let sector = address.sector.0;
     if tracks(size) <= track {
         return false;
