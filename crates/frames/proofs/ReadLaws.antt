@@ -7,11 +7,11 @@ use mathlib.Core.List.{List}
 use lib.Dec.{eqb}
 use lib.ListN.{length, get_or}
 use borrow.Author.Tests.{eqb-true, eqb-false, eq-eqb, ne_eqb, not-false}
-use Rattle.rows.proofs.BoolLaws.{by_test}
+use Rattle.rows.proofs.BoolLaws.{by_test, by_eq}
 use Rattle.frames.specs.Table.{frame_length, carries_address}
 use Rattle.frames.specs.Requests.{plain}
 use Rattle.terms.specs.Strings.{string_at}
-use Rattle.frames.specs.Reading.{code, refusal_of, named_in, login_in, string_request, request_in}
+use Rattle.frames.specs.Reading.{code, refusal_of, named_in, login_in, string_request, request_in, reading_of}
 use Rattle.frames.specs.Writing.{code_of}
 use Rattle.frames.proofs.TableLaws.{Code, acknowledge, read, write, login, assign, lock, unlock, clear, logout, code_is}
 
@@ -76,3 +76,32 @@ code_kept f h = go (code_is (code f) (well_is f h).known)
     go (unlock e) = rw e
     go (clear e) = rw e
     go (logout e) = rw e
+
+-- what a frame is refused with, test by test
+module _ (f : List ℕ) where
+  pub empty_1 : length f ≡ 0 → refusal_of f ≡ 1
+  unfolding refusal_of
+  empty_1 e = rw (eq-eqb _ _ e)
+
+  module _ (full : length f ≡ 0 → ⊥) where
+    pub unknown_3 : frame_length (code f) ≡ 0 → refusal_of f ≡ 3
+    unfolding refusal_of
+    unknown_3 e = rw (ne_eqb _ _ full, eq-eqb _ _ e)
+
+    module _ (known : frame_length (code f) ≡ 0 → ⊥) where
+      pub long_4 : (length f ≡ frame_length (code f) → ⊥) → refusal_of f ≡ 4
+      unfolding refusal_of
+      long_4 n = rw (ne_eqb _ _ full, ne_eqb (frame_length (code f)) 0 known, ne_eqb (length f) (frame_length (code f)) n)
+
+      pub dtn_6 : length f ≡ frame_length (code f) → carries_address (code f) ≡ true → (get_or f 1 0 ≡ 0 → ⊥) → refusal_of f ≡ 6
+      unfolding refusal_of
+      dtn_6 e a n = rw (ne_eqb _ _ full, ne_eqb (frame_length (code f)) 0 known, eq-eqb (length f) (frame_length (code f)) e, a, ne_eqb (get_or f 1 0) 0 n)
+
+  -- what the reading tells
+  pub reading_refuses : (reading_of f).refusal ≡ refusal_of f
+  unfolding reading_of
+  reading_refuses = by_eq (refusal_of f) 0 (λ z. rw z) (λ n. rw (ne_eqb (refusal_of f) 0 n))
+
+  pub reading_gives : refusal_of f ≡ 0 → (reading_of f).request ≡ request_in f
+  unfolding reading_of
+  reading_gives z = rw z

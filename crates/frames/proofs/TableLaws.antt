@@ -1,9 +1,13 @@
 -- The laws of specs/Table.antt: a code with a length is one of the nine, and an address has one length.
 use Prim.Native.Nat.{ℕ}
+use native.Mathlib.Omega.{arith}
 use mathlib.Core.Path.{◌≡◌}
 use mathlib.Core.Bool.{true}
 use borrow.Author.Tests.{ne_eqb}
 use Rattle.rows.proofs.BoolLaws.{by_eq, both}
+use Rattle.frames.specs.declared.code.Code.{Code as Kind}
+use Rattle.frames.specs.declared.code.Code.TheVariants.{Acknowledge, Read, Write, Login, Assign, Lock, Unlock, Clear, Logout}
+use Rattle.frames.specs.Codes.{byte_of}
 use Rattle.frames.specs.Table.{ACKNOWLEDGE, READ, WRITE, LOGIN, ASSIGN, LOCK, UNLOCK, CLEAR, LOGOUT, frame_table, length_in, frame_length, carries_address}
 
 -- a code that is none of the nine has no length
@@ -44,3 +48,19 @@ unfolding frame_length length_in frame_table carries_address
 address_long n h = by_eq n READ (λ (e : n ≡ READ). rw e) λ r.
     by_eq n WRITE (λ (e : n ≡ WRITE). rw e) λ w.
     both h (rw (ne_eqb n READ r, ne_eqb n WRITE w))
+
+-- each code of the type is in the table
+pub kind_known : (c : Kind) → frame_length (byte_of c) ≡ 0 → ⊥
+unfolding frame_length length_in frame_table
+kind_known Acknowledge e = omega arith
+kind_known Read e = omega arith
+kind_known Write e = omega arith
+kind_known Login e = omega arith
+kind_known Assign e = omega arith
+kind_known Lock e = omega arith
+kind_known Unlock e = omega arith
+kind_known Clear e = omega arith
+kind_known Logout e = omega arith
+
+pub code_known : (n : ℕ) (c : Kind) → n ≡ byte_of c → frame_length n ≡ 0 → ⊥
+code_known n c e = rw e (kind_known c)

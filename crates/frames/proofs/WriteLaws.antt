@@ -3,10 +3,11 @@ use Prim.Native.Nat.{ℕ, ◌+◌, ◌≤◌}
 use native.Mathlib.Omega.{arith}
 use mathlib.Core.Path.{◌≡◌, refl, sym, ap, ◌∙◌}
 use mathlib.Core.Bool.{true}
-use mathlib.Core.List.{List, ◌∷◌, ◌++◌, append_assoc}
+use mathlib.Core.List.{List, [], ◌∷◌, ◌++◌, append_assoc}
 use lib.ListN.{length, get_or, length-append}
+use Rattle.std.proofs.lemmas.List.{take-append-drop}
 use Rattle.rows.proofs.BoolLaws.{both}
-use Rattle.rows.proofs.RowLaws.{over_next}
+use Rattle.rows.proofs.RowLaws.{put_next, over_first, over_next}
 use Rattle.rows.proofs.NumberLaws.{length_low_bytes}
 use Rattle.rows.specs.Rows.{put, over}
 use Rattle.frames.specs.declared.Command.{Command}
@@ -40,23 +41,32 @@ pub frame_long : (q : Request) (c : Command) → Sized q → q.command ≡ c →
 unfolding frame_of
 frame_long q c s e = fields_long q.command q s ∙ ap (λ (d : Command). frame_length (code_of d)) e
 
--- a buffer that a frame fits has room for the length beside the code
-pub room_for : (q : Request) (c : Command) (n : ℕ) → Sized q → q.command ≡ c → length (frame_of q) ≤ n → frame_length (code_of c) ≤ n
-room_for q c n s e h = omega (arith, frame_long q c s e)
+-- no bytes put down, and parts put down one after the other
+pub put_none : (l : List ℕ) (at : ℕ) → l ≡ put l at []
+unfolding put
+put_none l at = sym (take-append-drop at l)
 
--- a frame that stands at the start, by its command
-pub over_frame : (q : Request) (c : Command) (l : List ℕ) {b : List ℕ} → q.command ≡ c → b ≡ over (code_of c ∷ fields_of c q) l → b ≡ over (frame_of q) l
-unfolding frame_of
-over_frame q c l e h = h ∙ ap (λ (d : Command). over (code_of d ∷ fields_of d q) l) (sym e)
+module _ (q : Request) (sized : Sized q) (l : List ℕ) where
+  pub named_put : 15 ≤ length l → put (put l 1 q.name) 9 q.password ≡ put l 1 (named_fields q)
+  unfolding named_fields
+  named_put room = put_next l q.name q.password 1 9 (omega (arith, sized.name)) (omega (arith, sized.password))
 
--- one part put down after what already stands at the start, and two parts
-module _ (l p q : List ℕ) (at : ℕ) {b b' : List ℕ} (e : b ≡ over p l) (e' : b' ≡ put b at q) (start : length p ≡ at) where
-  pub over_one : at + length q ≤ length l → b' ≡ over (p ++ q) l
-  over_one fits = e' ∙ rw e (over_next l p q at start fits)
+  pub login_put : (product : ℕ) → 20 ≤ length l → put (put (put l 1 (named_fields q)) 15 q.serial) 19 (product ∷ []) ≡ put l 1 (login_fields q product)
+  unfolding named_fields login_fields
+  login_put product room =
+      let named : List ℕ = q.name ++ q.password in
+      let long : length named ≡ 14 = simp length-append (omega (arith, sized.name, sized.password)) in
+      rw (
+        put_next l named q.serial 1 15 (omega arith) (omega (arith, sized.serial)),
+        put_next l (named ++ q.serial) (product ∷ []) 1 19 (simp length-append (omega (arith, long, sized.serial))) room,
+        append_assoc named q.serial (product ∷ []),
+        append_assoc q.name q.password (q.serial ++ (product ∷ [])),
+      )
 
-  pub over_two : (r : List ℕ) (end : ℕ) {b'' : List ℕ} → b'' ≡ put b' end r → at + length q ≡ end → end + length r ≤ length l → b'' ≡ over (p ++ (q ++ r)) l
-  over_two r end e'' more fits =
-      e'' ∙ rw (over_one (omega arith), over_next l (p ++ q) r end (length-append p q ∙ omega arith) fits, append_assoc p q r)
+  -- the code first, and its fields after it
+  pub frame_put : (c : ℕ) → c ≡ code_of q.command → length (frame_of q) ≤ length l → put (put l 0 (c ∷ [])) 1 (fields_of q.command q) ≡ over (frame_of q) l
+  unfolding frame_of
+  frame_put c e fits = rw (e, over_first l (code_of q.command ∷ [])) (over_next l (code_of q.command ∷ []) (fields_of q.command q) 1 refl (omega (arith, fits)))
 
 -- the frame of a read or a write has dtn 0
 pub dtn_zero : (c : Command) (q : Request) → carries_address (code_of c) ≡ true → get_or (code_of c ∷ fields_of c q) 1 0 ≡ 0

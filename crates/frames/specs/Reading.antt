@@ -1,5 +1,7 @@
 -- Reading a frame: 1, 3, 4 or 6 in that order, or the request.
-use Rattle.std.specs.Prelude.{ℕ, cond, not, ◌&&◌, List, eqb, length, get_or, replicate}
+use Rattle.std.specs.Prelude.{ℕ, cond, not, ◌&&◌, List, eqb, length, get_or, replicate, Result}
+use Rattle.refusals.specs.declared.Refusal.{Refusal}
+use Rattle.refusals.specs.Outcomes.{GivesUnless}
 use Rattle.rows.specs.Rows.{part}
 use Rattle.rows.specs.Numbers.{low_first}
 use Rattle.terms.specs.declared.Address.{Address}
@@ -73,3 +75,7 @@ reading_of f =
     cond (eqb (refusal_of f) 0)
     (record { refusal = 0; request = request_in f })
     (record { refusal = refusal_of f; request = plain Acknowledge })
+
+-- a call that reads a frame
+abbrev pub Reads : List ℕ → Result Request Refusal → Type 0
+Reads f = GivesUnless (reading_of f).refusal (reading_of f).request

@@ -1,5 +1,7 @@
 -- Writing a request: its frame, what is answered, and what the buffer then holds.
-use Rattle.std.specs.Prelude.{ℕ, cond, List, [], ◌∷◌, ◌++◌, ltb, length}
+use Rattle.std.specs.Prelude.{ℕ, cond, List, [], ◌∷◌, ◌++◌, ltb, length, Result}
+use Rattle.refusals.specs.declared.Refusal.{Refusal}
+use Rattle.refusals.specs.Outcomes.{LeavesUnless}
 use Rattle.rows.specs.Rows.{over}
 use Rattle.rows.specs.Numbers.{low_bytes}
 use Rattle.terms.specs.declared.Address.{Address}
@@ -62,3 +64,7 @@ written_of q n =
 -- the frame stands at the start and the bytes after it stay; nothing changes where it does not fit
 unfoldable pub buffer_after : Request → List ℕ → List ℕ
 buffer_after q b = cond (ltb (length b) (length (frame_of q))) b (over (frame_of q) b)
+
+-- a call that writes a request into the buffer b
+abbrev pub Writes : Request → List ℕ → Result ℕ Refusal → List ℕ → Type 0
+Writes q b = LeavesUnless (written_of q (length b)).refusal (written_of q (length b)).length (buffer_after q b)

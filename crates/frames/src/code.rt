@@ -61,6 +61,7 @@ impl TryFrom<u8> for Code {
 
 impl Code {
     // The length of the frame with this code.
+    #[tactic(auto, unfolding(crate::specs::Table::frame_length, crate::specs::Table::length_in, crate::specs::Table::frame_table))]
     pub fn frame_length(self) -> usize
         ensures { result ≡ frame_length (byte_of self) }
     {
@@ -78,6 +79,7 @@ impl Code {
     }
 
     // The command's fields are dtn, src and an address: a read or a write.
+    #[tactic(auto, unfolding(crate::specs::Table::carries_address))]
     pub fn has_address(self) -> bool
         ensures { result ≡ carries_address (byte_of self) }
     {

@@ -2,6 +2,7 @@
 ghost use Rattle.std.specs.Prelude.{◌≡◌, ◌+◌, ◌≤◌, length};
 ghost use Rattle.rows.specs.Rows.{put as put_in, over};
 ghost use Rattle.frames.specs.Codes.{byte_of};
+ghost use Rattle.frames.specs.Table.{frame_length};
 ghost use Rattle.frames.specs.Writing.{code_of, fields_of, frame_of, address_fields, named_fields};
 
 use crate::{Code, Command, Request};
@@ -11,6 +12,7 @@ use terms::Address;
 impl From<Command> for Code {
     ghost from_gives = { λ command code. byte_of code ≡ code_of command };
 
+    #[tactic(auto, unfolding(crate::specs::Writing::code_of))]
     fn from(command: Command) -> Code {
         match command {
             Command::Acknowledge => Code::Acknowledge,
@@ -34,6 +36,7 @@ pub fn length_of(q: Request) -> usize
 }
 
 // dtn 0, src, dsk, trk (2), sec, vli.
+#[tactic(auto, unfolding(crate::specs::Writing::address_fields, rows::specs::Numbers::low_bytes))]
 fn put_address(buffer: &mut [u8], src: u8, address: Address)
     requires { 8 ≤ length buffer.old }
     ensures { buffer.new ≡ put_in buffer.old 1 (address_fields src address) }
@@ -46,6 +49,7 @@ fn put_address(buffer: &mut [u8], src: u8, address: Address)
 }
 
 // Name and password.
+#[tactic(auto, unfolding(crate::specs::Writing::named_fields))]
 fn put_named(buffer: &mut [u8], q: Request)
     requires { 15 ≤ length buffer.old }
     ensures { buffer.new ≡ put_in buffer.old 1 (named_fields q) }
@@ -55,8 +59,9 @@ fn put_named(buffer: &mut [u8], q: Request)
 }
 
 // The fields that stand after the code.
+#[tactic(auto, using(crate::proofs::WriteLaws::put_none), unfolding(crate::specs::Table::frame_length, crate::specs::Table::length_in, crate::specs::Table::frame_table, crate::specs::Writing::code_of, crate::specs::Writing::fields_of))]
 fn put_fields(buffer: &mut [u8], q: Request)
-    requires { length (frame_of q) ≤ length buffer.old }
+    requires { frame_length (code_of q.command) ≤ length buffer.old }
     ensures { buffer.new ≡ put_in buffer.old 1 (fields_of q.command q) }
 {
     match q.command {

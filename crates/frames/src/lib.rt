@@ -6,10 +6,8 @@ pub mod code;
 mod compose;
 mod parse;
 
-ghost use Rattle.std.specs.Prelude.{length};
-ghost use Rattle.refusals.specs.Outcomes.{GivesUnless, LeavesUnless};
-ghost use Rattle.frames.specs.Reading.{reading_of};
-ghost use Rattle.frames.specs.Writing.{written_of, buffer_after};
+ghost use Rattle.frames.specs.Reading.{Reads};
+ghost use Rattle.frames.specs.Writing.{Writes};
 
 pub use code::Code;
 pub use parse::plain;
@@ -42,8 +40,9 @@ pub struct Request {
 }
 
 // Reads a frame: 1 empty, 3 unknown code, 4 wrong length, 6 dtn not 0.
+#[tactic(auto, using(crate::proofs::ReadLaws::reading_refuses, crate::proofs::ReadLaws::reading_gives))]
 pub fn read(frame: &[u8]) -> Result<Request, Refusal>
-    ensures { GivesUnless (reading_of frame.now).refusal (reading_of frame.now).request result }
+    ensures { Reads frame.now result }
 {
     let code = parse::code_of(frame)?;
     Ok(parse::request_of(code, frame))
@@ -52,7 +51,7 @@ pub fn read(frame: &[u8]) -> Result<Request, Refusal>
 // Writes the frame of q at the start of the buffer, and gives its length: 13 where the buffer is shorter, and then nothing
 // is written.
 pub fn write(q: Request, buffer: &mut [u8]) -> Result<usize, Refusal>
-    ensures { LeavesUnless (written_of q (length buffer.old)).refusal (written_of q (length buffer.old)).length (buffer_after q buffer.old) result buffer.new }
+    ensures { Writes q buffer.old result buffer.new }
 {
     let length = compose::length_of(q);
     if buffer.len() < length {

@@ -2,8 +2,9 @@
 ghost use Rattle.std.specs.Prelude.{◌≡◌, ◌≤◌, length};
 ghost use Rattle.rows.specs.Outcomes.{Gives};
 ghost use Rattle.frames.specs.Codes.{byte_of};
+ghost use Rattle.frames.specs.Table.{frame_length};
 ghost use Rattle.frames.specs.Requests.{plain as plain_of};
-ghost use Rattle.frames.specs.Reading.{«code» as code_in, refusal_of, address_in, named_in, string_request, request_in};
+ghost use Rattle.frames.specs.Reading.{«code» as code_in, address_in, named_in, string_request, request_in};
 ghost use Rattle.frames.specs.Inner.{Tests};
 
 use crate::{Code, Command, Request};
@@ -29,6 +30,7 @@ pub fn code_of(frame: &[u8]) -> Result<Code, Refusal>
 }
 
 // The request of a command, with all byte fields zero.
+#[tactic(auto, unfolding(crate::specs::Requests::plain))]
 pub fn plain(command: Command) -> Request
     ensures { Gives (plain_of command) result }
 {
@@ -45,6 +47,7 @@ pub fn plain(command: Command) -> Request
 }
 
 // dtn, src, dsk, trk (2), sec, vli: the partition stands first and the volume last.
+#[tactic(auto, unfolding(crate::specs::Reading::address_in))]
 fn address_of(frame: &[u8]) -> Address
     requires { 8 ≤ length frame.now }
     ensures { result ≡ address_in frame.now }
@@ -62,6 +65,7 @@ fn address_of(frame: &[u8]) -> Address
 }
 
 // Name and password.
+#[tactic(auto, unfolding(crate::specs::Reading::named_in, crate::specs::Requests::plain))]
 fn named(command: Command, frame: &[u8]) -> Request
     requires { 15 ≤ length frame.now }
     ensures { result ≡ named_in command frame.now }
@@ -74,6 +78,7 @@ fn named(command: Command, frame: &[u8]) -> Request
 }
 
 // The lock string, with the bytes after its length.
+#[tactic(auto, unfolding(crate::specs::Reading::string_request, crate::specs::Requests::plain, terms::specs::Strings::string_at))]
 fn with_string(command: Command, frame: &[u8]) -> Request
     requires { 15 ≤ length frame.now }
     ensures { result ≡ string_request command frame.now }
@@ -85,8 +90,9 @@ fn with_string(command: Command, frame: &[u8]) -> Request
 }
 
 // The request of a frame that is not refused, by its code.
+#[tactic(auto, unfolding(crate::specs::Table::frame_length, crate::specs::Table::length_in, crate::specs::Table::frame_table, crate::specs::Reading::request_in, crate::specs::Reading::login_in, crate::specs::Reading::named_in))]
 pub fn request_of(code: Code, frame: &[u8]) -> Request
-    requires { (refusal_of frame.now ≡ 0) × (code_in frame.now ≡ byte_of code) }
+    requires { (length frame.now ≡ frame_length (byte_of code)) × (code_in frame.now ≡ byte_of code) }
     ensures { result ≡ request_in frame.now }
 {
     match code {

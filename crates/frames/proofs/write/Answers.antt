@@ -1,5 +1,6 @@
 use lib.ListN.{length}
 use native.Mathlib.Omega.{arith}
+use mathlib.Core.Path.{refl}
 use Rattle.frames.specs.Writing.{frame_of, written_of, buffer_after}
 use borrow.Author.Tests.{lt-ltb, le-ltb}
 use Rattle.frames.proofs.write.Goals as goal
@@ -14,4 +15,4 @@ pub returns : goal.returns
 unfolding written_of buffer_after
 returns c = let a = c.args in
     let fits = le-ltb (length a.buffer.now) (length (frame_of a.q)) (omega (arith, c.length_of-length.ensures)) in
-    record { answer = rw (c.length_of-length.ensures, fits); left = rw fits c.write_frame.ensures }
+    record { answer = rw fits (refl, c.length_of-length.ensures); left = rw fits c.write_frame.ensures }

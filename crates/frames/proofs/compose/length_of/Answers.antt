@@ -6,4 +6,4 @@ use Rattle.frames.proofs.compose.length_of.Goals as goal
 
 pub returns : goal.returns
 returns c = let sized : Sized c.args.q = search rules in
-    c.frame_length.ensures.answer ∙ ap frame_length c.code_of.ensures ∙ sym (frame_long _ _ sized refl)
+    c.frame_length.ensures ∙ ap frame_length c.from.ensures ∙ sym (frame_long _ _ sized refl)
