@@ -10,53 +10,32 @@ const EMPTY: [u8; 8] = *b"\0\0\x08\0\0\0\x08\0";
 // Assign ARCHIVE1, with six zeros for the password.
 const ASSIGN: [u8; 15] = *b"\x17ARCHIVE1\0\0\0\0\0\0";
 
-// The last hexadecimal digit of n.
-fn digit(n: u64) -> u8 {
-    let d = (n % 16) as u8;
-    if d < 10 { b'0' + d } else { b'A' + (d - 10) }
-}
-
-// The first n bytes of an answer.
-fn print_bytes(rt: &impl Print, word: u64, n: usize) {
-    let mut rest = word / 0x1_0000;
-    let mut i: usize = 0;
-    while i < n {
-        let text = [b' ', digit(rest / 16), digit(rest)];
-        let _ = rt.write_all(&text);
-        rest = rest / 256;
-        i += 1;
-    }
-}
-
 // What it is an example of, the refusal, and the first n bytes of the answer. What cannot be written is left out.
-fn print(rt: &impl Print, what: &[u8], word: u64, n: usize) {
-    let _ = rt.write_all(what);
-    let _ = rt.print(word % 256);
-    print_bytes(rt, word, n);
-    let _ = rt.write_all(b"\n");
+fn print(rt: &impl Print, what: &str, word: u64, n: usize) {
+    let _ = print!(rt; "{what}{}", word % 256);
+    for byte in word.to_le_bytes().iter().skip(2).take(n) {
+        let _ = print!(rt; " {byte:02X}");
+    }
+    let _ = println!(rt; "");
 }
 
-fn place(rt: &impl Print, what: &[u8], track: u32, sector: u32) {
+fn place(rt: &impl Print, what: &str, track: u32, sector: u32) {
     print(rt, what, hinet::hinet_place(1, 0, track, sector, &SITE), 0);
 }
 
 // An assign by user 0, over fresh tables.
-fn assign(rt: &impl Print, what: &[u8], site: &[u8]) {
-    let mut locks = [0u8; 1024];
-    let mut stations = [0u8; 1152];
+fn assign(rt: &impl Print, what: &str, site: &[u8]) {
+    let mut locks = [0u8; locks::BYTES];
+    let mut stations = [0u8; who::BYTES];
     hinet::hinet_fresh(&mut locks, &mut stations);
-    print(
-        rt,
-        what,
-        hinet::hinet_frame(0, &ASSIGN, site, &mut locks, &mut stations),
-        4,
-    );
+    let word = hinet::hinet_frame(0, &ASSIGN, site, &mut locks, &mut stations);
+    print(rt, what, word, 4);
 }
 
 fn main(rt: HostRuntime) {
-    place(&rt, b"track 16: ", 16, 1);
-    place(&rt, b"sector 0: ", 0, 0);
-    place(&rt, b"sector 129: ", 0, 129);
-    assign(&rt, b"assign with six zero password bytes: ", &SITE);
-    assign(&rt, b"assign with the empty site file: ", &EMPTY);
+    place(&rt, "track 16: ", 16, 1);
+    place(&rt, "sector 0: ", 0, 0);
+    place(&rt, "sector 129: ", 0, 129);
+    assign(&rt, "assign with six zero password bytes: ", &SITE);
+    assign(&rt, "assign with the empty site file: ", &EMPTY);
 }

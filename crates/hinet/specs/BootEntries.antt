@@ -1,11 +1,9 @@
 -- What the entry that chooses the system of a login returns and leaves (02, Req 07). x are the tables, b the buffer.
 use Rattle.std.specs.Prelude.{ℕ, List}
 use Rattle.rows.specs.Outcomes.{Leaves}
-use Rattle.boot.specs.declared.Booted.{Booted}
-use Rattle.boot.specs.declared.Booted.TheVariants.{Refused, Honors}
 use Rattle.boot.specs.Tables.{Tables}
 use Rattle.boot.specs.Choice.{honor}
-use Rattle.boot.specs.Answers.{boot_refusal, block_after}
+use Rattle.boot.specs.Answers.{Booted, Refused, Honors, boot_refusal, block_after}
 use Rattle.master.specs.Answers.{Told, refuses, answers, honor_flag, answers_unless}
 use Rattle.hinet.specs.Packing.{word}
 

@@ -1,12 +1,9 @@
 -- What each entry returns and leaves. n is the number polled, f the frame, s the site file, t the lock table, w the station records.
-use Rattle.std.specs.Prelude.{ℕ, ◌≡◌, Bool, cond, not, eqb, List}
+use Rattle.std.specs.Prelude.{ℕ, ◌≡◌, Bool, cond, not, eqb, List, Result, Ok, Err}
 use Rattle.terms.specs.declared.Address.{Address}
-use Rattle.site.specs.declared.Located.{Located}
-use Rattle.site.specs.declared.Located.TheVariants.{At, Faulty}
-use Rattle.site.specs.declared.Checked.{Checked}
-use Rattle.site.specs.declared.Checked.TheVariants.{Good, Faulty as Bad}
+use Rattle.site.specs.declared.Fault.{Fault}
 use Rattle.site.specs.Faults.{checked}
-use Rattle.site.specs.Places.{placed_by}
+use Rattle.site.specs.Places.{Located, At, Faulty, placed_by}
 use Rattle.master.specs.Tables.{good_tables}
 use Rattle.master.specs.Answers.{Told, answers, no_bytes, fault_told}
 use Rattle.master.specs.Frames.{place_told, frame_effect}
@@ -19,9 +16,9 @@ use Rattle.master.specs.Polls.{due_told, poll_effect}
 unfoldable pub tables_word : List ℕ → List ℕ → ℕ
 tables_word t w = cond (good_tables t w) 0 11
 
-unfoldable pub checked_told : Checked → Told
-checked_told Good = answers no_bytes
-checked_told (Bad x) = fault_told x
+unfoldable pub checked_told : Result (Unit {0}) Fault → Told
+checked_told (Ok u) = answers no_bytes
+checked_told (Err x) = fault_told x
 
 unfoldable pub site_told : List ℕ → Told
 site_told s = checked_told (checked s)

@@ -1,4 +1,5 @@
 pub mod Packing
+pub mod Tellings
 pub mod Entries
 pub mod FrameEntries
 pub mod StationEntries

@@ -4,11 +4,7 @@ use Rattle.rows.specs.Outcomes.{Leaves}
 use Rattle.framing.specs.Frame.{frame_bits}
 use Rattle.framing.specs.Writing.{write_refusal, bits_after}
 use Rattle.framing.specs.Reading.{user_in, data_in, read_refusal, put_unless}
-use Rattle.framing.specs.declared.Written.{Written}
-use Rattle.framing.specs.declared.Written.TheVariants.{Refused as Unwritten, Bits}
-use Rattle.framing.specs.declared.Reading.{Reading}
-use Rattle.framing.specs.declared.Reading.TheVariants.{Refused as Unread, Frame}
-use Rattle.master.specs.Answers.{Told, refuses, answers, bits_of, line_of, answers_unless}
+use Rattle.master.specs.Answers.{bits_of, line_of, answers_unless}
 use Rattle.master.specs.Line.{line_effect}
 use Rattle.hinet.specs.Packing.{word}
 use Rattle.hinet.specs.Entries.{Tells}
@@ -24,12 +20,3 @@ LineReads s n b = Leaves (word (answers_unless (read_refusal s n b) (line_of (us
 -- a frame from the line at the number p: x is the site file, t the lock table, w the station records
 abbrev pub LineServed : ℕ → List ℕ → ℕ → List ℕ → List ℕ → List ℕ → ℕ → List ℕ → List ℕ → Type 0
 LineServed p s n x t w = Tells (line_effect p s n x t w)
-
--- what the library's answers tell
-unfoldable pub written_told : Written → Told
-written_told (Unwritten k) = refuses k
-written_told (Bits n) = answers (bits_of n)
-
-unfoldable pub reading_told : Reading → Told
-reading_told (Unread k) = refuses k
-reading_told (Frame user length) = answers (line_of user length)

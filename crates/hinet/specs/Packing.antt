@@ -2,6 +2,8 @@
 -- 10 alone has something above bit 7: the fault's kind, and part, row and breach.
 use Rattle.std.specs.Prelude.{ℕ, ◌+◌, ◌*◌, ◌/◌, ◌%◌, ◌^◌, Bool, cond, ◌&&◌, eqb}
 use Rattle.who.specs.Records.{flag}
+use Rattle.hinet.specs.declared.packing.Kind.{Kind}
+use Rattle.hinet.specs.declared.packing.Kind.TheVariants.{Status, Assign, Place, Login, Turn, Written, Fault, Bits, Line, Boot, Request}
 use Rattle.master.specs.Answers.{Told, refuses, refuses_site, answers, Answered, no_bytes, status_byte, assign_bytes, place_at, login_as, turn_was, frame_made, request_of, bits_of, line_of, honor_flag}
 
 -- the kinds of answer; an entry with nothing more to tell returns 0
@@ -37,6 +39,20 @@ BOOT = 10
 
 abbrev pub REQUEST : ℕ
 REQUEST = 13
+
+-- the number of each kind that the code tells
+abbrev pub kind_number : Kind → ℕ
+kind_number Status = STATUS
+kind_number Assign = ASSIGN
+kind_number Place = PLACE
+kind_number Login = LOGIN
+kind_number Turn = TURN
+kind_number Written = WRITTEN
+kind_number Fault = FAULT
+kind_number Bits = BITS
+kind_number Line = LINE
+kind_number Boot = BOOT
+kind_number Request = REQUEST
 
 -- a sector, a serial and a count of bits take four bytes, the length of the data of a frame of the line two, every other value one
 unfoldable pub word : Told → ℕ

@@ -2,7 +2,8 @@
 ghost use Rattle.boot.specs.Tables.{lent};
 ghost use Rattle.hinet.specs.BootEntries.{SystemChosen};
 
-use crate::packing;
+use crate::packing::Packed;
+use boot::{Login, Tables};
 
 // Chooses the system: 23, 13, or the honor flag.
 pub fn hinet_boot(
@@ -19,16 +20,18 @@ pub fn hinet_boot(
 ) -> u64
     ensures { SystemChosen (lent machines.now products.now users.now configurations.now systems.now directory.now) serial.now name.now password.now block.old result block.new }
 {
-    packing::pack_booted(boot::boot(
+    let login = Login {
         serial,
         name,
         password,
+    };
+    let tables = Tables {
         machines,
         products,
         users,
         configurations,
         systems,
         directory,
-        block,
-    ))
+    };
+    boot::boot(&login, &tables, block).pack()
 }

@@ -16,29 +16,34 @@ pub mod station_end;
 ghost use Rattle.rows.specs.Outcomes.{Gives};
 ghost use Rattle.hinet.specs.Entries.{tables_word, site_word, address_of, place_word, due_word, Freshened, Served, Polled};
 
+use master::Answer;
+use packing::Packed;
+use refusals::Refusal;
+
 // Fills fresh tables; 11 for another size.
 pub fn hinet_fresh(locks: &mut [u8], stations: &mut [u8]) -> u64
     ensures { Freshened locks.old stations.old result locks.new stations.new }
 {
-    packing::pack(master::fresh(locks, stations))
+    master::fresh(locks, stations).pack()
 }
 
 // 11, or 0 where the tables are good.
 pub fn hinet_check_tables(locks: &[u8], stations: &[u8]) -> u64
     ensures { Gives (tables_word locks.now stations.now) result }
 {
-    if master::tables_good(locks, stations) {
-        0
+    let checked = if master::tables_good(locks, stations) {
+        Ok(())
     } else {
-        11
-    }
+        Err(Refusal::BadTables)
+    };
+    checked.pack()
 }
 
 // 10 with the first fault, or 0 where the site file is good.
 pub fn hinet_check_site(site: &[u8]) -> u64
     ensures { Gives (site_word site.now) result }
 {
-    packing::pack_checked(site::check(site))
+    site::check(site).pack()
 }
 
 // One frame at the number polled: 11, 10 with the first fault, 1 to 9, or what the frame does.
@@ -51,26 +56,28 @@ pub fn hinet_frame(
 ) -> u64
     ensures { Served number frame.now site.now locks.old stations.old result locks.new stations.new }
 {
-    packing::pack(master::serve(number, frame, site, locks, stations))
+    master::serve(number, frame, site, locks, stations).pack()
 }
 
 // One poll turn of the number: 11, 2, 5, 12, or was it due and did it end in a logout.
 pub fn hinet_poll(number: u32, heard: u32, locks: &mut [u8], stations: &mut [u8]) -> u64
     ensures { Polled number heard locks.old stations.old result locks.new stations.new }
 {
-    packing::pack_turn(master::poll_turn(number, heard != 0, locks, stations))
+    master::poll_turn(number, heard != 0, locks, stations).pack()
 }
 
 // Is the next poll turn of the number due: 11, 2, 5, or due and no logout.
 pub fn hinet_due(number: u32, locks: &[u8], stations: &[u8]) -> u64
     ensures { Gives (due_word number locks.now stations.now) result }
 {
-    packing::pack_turn(master::due(number, locks, stations))
+    master::due(number, locks, stations).pack()
 }
 
 // The place of an address: 10 with the first fault, 8, 9, or volume and sector. A volume or partition above 255 names no row.
 pub fn hinet_place(volume: u32, partition: u32, track: u32, sector: u32, site: &[u8]) -> u64
     ensures { Gives (place_word site.now (address_of volume partition track sector)) result }
 {
-    packing::pack_place(site::place(site, given::address_of(volume, partition, track, sector)))
+    site::place(site, given::address_of(volume, partition, track, sector))
+        .map(Answer::At)
+        .pack()
 }

@@ -2,20 +2,20 @@
 // frame from the line, served.
 ghost use Rattle.hinet.specs.LineEntries.{LineWrites, LineReads, LineServed};
 
-use crate::packing;
+use crate::packing::{Bits, Packed};
 
 // Writes a frame's bits: 17, 13, or how many they are.
 pub fn hinet_line_write(user: u8, data: &[u8], bits: &mut [u8]) -> u64
     ensures { LineWrites user «data».now bits.old result bits.new }
 {
-    packing::pack_bits(framing::write(user, data, bits))
+    framing::write(user, data, bits).map(Bits).pack()
 }
 
 // Reads a frame's bits: 18, 19, 20, 21, 17, 22, 13, or user number and length.
 pub fn hinet_line_read(bits: &[u8], bit_count: usize, data: &mut [u8]) -> u64
     ensures { LineReads bits.now bit_count «data».old result «data».new }
 {
-    packing::pack_reading(framing::read(bits, bit_count, data))
+    framing::read(bits, bit_count, data).pack()
 }
 
 // One frame from the line at the number polled: 18, 19, 20, 21, 17, 22; then as hinet_frame, or another's number and length.
@@ -29,5 +29,5 @@ pub fn hinet_line_frame(
 ) -> u64
     ensures { LineServed number bits.now bit_count site.now locks.old stations.old result locks.new stations.new }
 {
-    packing::pack_received(master::line::receive(number, bits, bit_count, site, locks, stations))
+    master::line::receive(number, bits, bit_count, site, locks, stations).pack()
 }

@@ -1,59 +1,80 @@
 // An answer as one word (specs/Packing.antt).
-ghost use Rattle.std.specs.Prelude.{◌≡◌};
-ghost use Rattle.site.specs.Faults.{breach_number};
-ghost use Rattle.master.specs.Answers.{refuses_site, answers, request_of, line_of, fault_told, told, turn_told};
+ghost use Rattle.std.specs.Prelude.{◌≡◌, ◌+◌, ◌*◌, ◌<◌, ◌^◌, Result, Ok, Err};
+ghost use Rattle.refusals.specs.Refusals.{number};
+ghost use Rattle.site.specs.Faults.{breach_number as number_of};
+ghost use Rattle.boot.specs.Honors.{flag_of};
+ghost use Rattle.master.specs.Answers.{Told, refuses, refuses_site, answers, no_bytes, frame_made, request_of, bits_of, line_of, honor_flag, fault_told, told as answer_told, turn_told};
 ghost use Rattle.master.specs.Line.{received_told};
-ghost use Rattle.master.specs.Frames.{place_told};
-ghost use Rattle.hinet.specs.Packing.{word};
-ghost use Rattle.hinet.specs.Entries.{checked_told, located_told};
-ghost use Rattle.hinet.specs.FrameEntries.{frame_told};
-ghost use Rattle.hinet.specs.StationEntries.{step_told};
-ghost use Rattle.hinet.specs.LineEntries.{written_told, reading_told};
-ghost use Rattle.hinet.specs.BootEntries.{booted_told};
+ghost use Rattle.hinet.specs.Packing.{word, kind_number};
+ghost use Rattle.hinet.specs.Tellings.{either_told};
 
-use boot::Booted;
-use framing::{Reading, Written};
+use boot::Honor;
+use framing::Heading;
 use master::{Answer, Received, Turned};
-use site::{Breach, Checked, Fault, Located, Placed};
+use refusals::Refusal;
+use site::{Breach, Fault, Refused};
+
+// What an entry tells, and the word for it.
+pub trait Packed: Sized {
+    ghost tells: { Self → Told };
+
+    fn pack(self) -> u64
+        ensures { result ≡ word (tells self) };
+}
 
 // The kinds of answer, in bits 8 to 15.
-const STATUS: u64 = 0x100;
+#[derive(Clone, Copy)]
+enum Kind {
+    Status = 1,
+    Assign = 2,
+    Place = 3,
+    Login = 4,
+    Turn = 5,
+    Written = 6,
+    Fault = 7,
+    Bits = 8,
+    Line = 9,
+    Boot = 10,
+    Request = 13,
+}
 
-const ASSIGN: u64 = 0x200;
+// Where the bytes of an answer stand after the first.
+const BYTE_1: u64 = 0x100;
 
-const PLACE: u64 = 0x300;
+const BYTE_2: u64 = 0x1_0000;
 
-const LOGIN: u64 = 0x400;
+const BYTE_3: u64 = 0x100_0000;
 
-const TURN: u64 = 0x500;
+impl Kind {
+    // The word of this kind whose answer has these bytes, lowest first.
+    fn word(self, bytes: u64) -> u64
+        requires { bytes < 2 ^ 48 }
+        ensures { result ≡ kind_number self * 2 ^ 8 + bytes * 2 ^ 16 }
+    {
+        self as u64 * 0x100 + bytes * 0x1_0000
+    }
+}
 
-const WRITTEN: u64 = 0x600;
+// What was done has nothing more to tell.
+impl Packed for () {
+    ghost tells = { λ _. answers no_bytes };
 
-const FAULT: u64 = 0x700;
+    fn pack(self) -> u64 {
+        0
+    }
+}
 
-const BITS: u64 = 0x800;
+impl Packed for Refusal {
+    ghost tells = { λ refusal. refuses (number refusal) };
 
-const LINE: u64 = 0x900;
-
-const BOOT: u64 = 0xA00;
-
-const REQUEST: u64 = 0xD00;
-
-// The refusal of a site file, beside which its fault stands.
-const SITE: u64 = 10;
-
-// Where the bytes of an answer stand.
-const BYTE_0: u64 = 0x1_0000;
-
-const BYTE_1: u64 = 0x100_0000;
-
-const BYTE_2: u64 = 0x1_0000_0000;
-
-const BYTE_3: u64 = 0x100_0000_0000;
+    fn pack(self) -> u64 {
+        u64::from(self.number())
+    }
+}
 
 // 1 range, 2 repeated name, 3 repeated volume and number, 4 overlap.
 fn breach_number(breach: Breach) -> u8
-    ensures { result ≡ breach_number breach }
+    ensures { result ≡ number_of breach }
 {
     match breach {
         Breach::Range => 1,
@@ -64,160 +85,155 @@ fn breach_number(breach: Breach) -> u8
 }
 
 // Refusal 10 with part, row and breach.
-fn pack_site(part: u8, row: u8, breach: u8) -> u64
-    ensures { result ≡ word (refuses_site part row breach) }
+fn pack_site(part: u8, row: u8, breach: Breach) -> u64
+    ensures { result ≡ word (refuses_site part row (number_of breach)) }
 {
-    let front = SITE + FAULT + part as u64 * BYTE_0;
-    front + row as u64 * BYTE_1 + breach as u64 * BYTE_2
+    let breach = u64::from(breach_number(breach));
+    let bytes = u64::from(part) + u64::from(row) * BYTE_1 + breach * BYTE_2;
+    Refusal::BadSiteFile.pack() + Kind::Fault.word(bytes)
 }
 
 // A fault: its part is 0 for the header, 1 for a user row, 2 for a partition row.
-fn pack_fault(fault: Fault) -> u64
-    ensures { result ≡ word (fault_told fault) }
-{
-    match fault {
-        Fault::InHeader => pack_site(0, 0, breach_number(Breach::Range)),
-        Fault::InUser(row) => pack_site(1, row, breach_number(Breach::Name)),
-        Fault::InPartition(row, breach) => pack_site(2, row, breach_number(breach)),
+impl Packed for Fault {
+    ghost tells = { fault_told };
+
+    fn pack(self) -> u64 {
+        match self {
+            Fault::InHeader => pack_site(0, 0, Breach::Range),
+            Fault::InUser(row) => pack_site(1, row, Breach::Name),
+            Fault::InPartition(row, breach) => pack_site(2, row, breach),
+        }
     }
 }
 
-// What the check of a site file gave.
-pub fn pack_checked(checked: Checked) -> u64
-    ensures { result ≡ word (checked_told checked) }
-{
-    match checked {
-        Checked::Good => 0,
-        Checked::Faulty(fault) => pack_fault(fault),
+impl Packed for Refused {
+    ghost tells = { λ refused. answer_told (Err refused) };
+
+    fn pack(self) -> u64 {
+        match self {
+            Refused::Site(fault) => fault.pack(),
+            Refused::By(refusal) => refusal.pack(),
+        }
+    }
+}
+
+// What was done, or why not.
+impl<T: Packed, E: Packed> Packed for Result<T, E> {
+    ghost tells = { either_told T.tells E.tells };
+
+    fn pack(self) -> u64 {
+        match self {
+            Ok(done) => done.pack(),
+            Err(refused) => refused.pack(),
+        }
     }
 }
 
 // The answer to a frame.
-pub fn pack(a: Answer) -> u64
-    ensures { result ≡ word (told a) }
-{
-    match a {
-        Answer::Refused(k) => k as u64,
-        Answer::Faulty(fault) => pack_fault(fault),
-        Answer::Nothing => 0,
-        Answer::Status(status) => STATUS + status as u64 * BYTE_0,
-        Answer::Assigned {
-            size,
-            partition,
-            control,
-            volume,
-        } => {
-            let front = ASSIGN + size as u64 * BYTE_0 + partition.0 as u64 * BYTE_1;
-            front + control as u64 * BYTE_2 + volume.0 as u64 * BYTE_3
+impl Packed for Answer {
+    ghost tells = { λ answer. answer_told (Ok answer) };
+
+    fn pack(self) -> u64 {
+        match self {
+            Answer::Nothing => 0,
+            Answer::Status(status) => Kind::Status.word(u64::from(u8::from(status))),
+            Answer::Assigned {
+                size,
+                partition,
+                control,
+                volume,
+            } => {
+                let front = u64::from(size) + u64::from(partition.0) * BYTE_1;
+                Kind::Assign.word(
+                    front + u64::from(control) * BYTE_2 + u64::from(volume.0) * BYTE_3,
+                )
+            }
+            Answer::At(at) => Kind::Place.word(
+                u64::from(at.volume.0) + u64::from(at.sector) * BYTE_1,
+            ),
+            Answer::LoggedIn {
+                number,
+                found,
+                serial,
+            } => {
+                let front = u64::from(number) + u64::from(found) * BYTE_1;
+                Kind::Login.word(front + u64::from(serial) * BYTE_2)
+            }
         }
-        Answer::At(at) => PLACE + at.volume.0 as u64 * BYTE_0 + at.sector as u64 * BYTE_1,
-        Answer::LoggedIn {
-            number,
-            found,
-            serial,
-        } => LOGIN + number as u64 * BYTE_0 + found as u64 * BYTE_1 + serial as u64 * BYTE_2,
-    }
-}
-
-// The place of an address, or its refusal.
-fn pack_placed(placed: Placed) -> u64
-    ensures { result ≡ word (place_told placed) }
-{
-    let refusal = placed.refusal;
-    if refusal != 0 {
-        return refusal as u64;
-    }
-    let at = placed.place;
-    pack(Answer::At(at))
-}
-
-// The place of an address in any file, or the file's fault.
-pub fn pack_place(located: Located) -> u64
-    ensures { result ≡ word (located_told located) }
-{
-    match located {
-        Located::Faulty(fault) => pack_fault(fault),
-        Located::At(placed) => pack_placed(placed),
     }
 }
 
 // The answer to a poll turn.
-pub fn pack_turn(a: Turned) -> u64
-    ensures { result ≡ word (turn_told a) }
-{
-    match a {
-        Turned::Refused(k) => k as u64,
-        Turned::Turn { due, out } => TURN + due as u64 * BYTE_0 + out as u64 * BYTE_1,
+impl Packed for Turned {
+    ghost tells = { λ turned. turn_told (Ok turned) };
+
+    fn pack(self) -> u64 {
+        Kind::Turn.word(u64::from(self.due) + u64::from(self.out) * BYTE_1)
     }
 }
 
-// A step of the station: its refusal, 0 for none.
-pub fn pack_step(refusal: u8) -> u64
-    ensures { result ≡ word (step_told refusal) }
-{
-    refusal as u64
-}
+// A frame or block written, by its length.
+#[derive(Clone, Copy)]
+pub struct Written(pub u8);
 
-// A frame or block written: its refusal, or its length.
-pub fn pack_frame(refusal: u8, length: u8) -> u64
-    ensures { result ≡ word (frame_told refusal length) }
-{
-    if refusal != 0 {
-        return refusal as u64;
+impl Packed for Written {
+    ghost tells = { λ written. answers (frame_made written.0) };
+
+    fn pack(self) -> u64 {
+        Kind::Written.word(u64::from(self.0))
     }
-    WRITTEN + length as u64 * BYTE_0
 }
 
-// A frame that reads well: its code.
-pub fn pack_request(code: u8) -> u64
-    ensures { result ≡ word (answers (request_of code)) }
-{
-    REQUEST + code as u64 * BYTE_0
+// A frame that reads well, by its code.
+#[derive(Clone, Copy)]
+pub struct Coded(pub u8);
+
+impl Packed for Coded {
+    ghost tells = { λ coded. answers (request_of coded.0) };
+
+    fn pack(self) -> u64 {
+        Kind::Request.word(u64::from(self.0))
+    }
+}
+
+// A frame written to the line, by how many bits it has.
+#[derive(Clone, Copy)]
+pub struct Bits(pub u16);
+
+impl Packed for Bits {
+    ghost tells = { λ bits. answers (bits_of bits.0) };
+
+    fn pack(self) -> u64 {
+        Kind::Bits.word(u64::from(self.0))
+    }
 }
 
 // A frame of the line: its user number, and the length of its data.
-fn pack_line(user: u8, length: u16) -> u64
-    ensures { result ≡ word (answers (line_of user length)) }
-{
-    LINE + user as u64 * BYTE_0 + length as u64 * BYTE_1
-}
+impl Packed for Heading {
+    ghost tells = { λ heading. answers (line_of heading.user heading.length) };
 
-// A frame written to the line: its refusal, or how many bits it has.
-pub fn pack_bits(w: Written) -> u64
-    ensures { result ≡ word (written_told w) }
-{
-    match w {
-        Written::Refused(k) => k as u64,
-        Written::Bits(count) => BITS + count as u64 * BYTE_0,
-    }
-}
-
-// A frame read from the line.
-pub fn pack_reading(a: Reading) -> u64
-    ensures { result ≡ word (reading_told a) }
-{
-    match a {
-        Reading::Refused(k) => k as u64,
-        Reading::Frame { user, length } => pack_line(user, length),
+    fn pack(self) -> u64 {
+        Kind::Line.word(u64::from(self.user) + u64::from(self.length) * BYTE_1)
     }
 }
 
 // A frame from the line: another's, or answered as a frame is.
-pub fn pack_received(a: Received) -> u64
-    ensures { result ≡ word (received_told a) }
-{
-    match a {
-        Received::Another { user, length } => pack_line(user, length),
-        Received::Answered(answer) => pack(answer),
+impl Packed for Received {
+    ghost tells = { λ received. received_told (Ok received) };
+
+    fn pack(self) -> u64 {
+        match self {
+            Received::Another(heading) => heading.pack(),
+            Received::Answered(answer) => answer.pack(),
+        }
     }
 }
 
-// A login's system: its refusal, or the honor flag.
-pub fn pack_booted(a: Booted) -> u64
-    ensures { result ≡ word (booted_told a) }
-{
-    match a {
-        Booted::Refused(k) => k as u64,
-        Booted::Honors(flag) => BOOT + flag as u64 * BYTE_0,
+// A login's system, by the honor flag.
+impl Packed for Honor {
+    ghost tells = { λ honor. answers (honor_flag (flag_of honor)) };
+
+    fn pack(self) -> u64 {
+        Kind::Boot.word(u64::from(u8::from(self)))
     }
 }

@@ -2,14 +2,16 @@
 ghost use Rattle.params.specs.declared.System.TheVariants.{Cpm, Msdos};
 ghost use Rattle.hinet.specs.ParameterEntries.{Parameters};
 
-use crate::packing;
+use crate::packing::{Packed, Written};
 use params::System;
 
 // Writes a system's block.
 fn write_block(system: System, size: u32, buffer: &mut [u8]) -> u64
     ensures { Parameters system size buffer.old result buffer.new }
 {
-    packing::pack_frame(params::write(system, size, buffer), params::BYTES as u8)
+    params::write(system, size, buffer)
+        .map(|()| Written(params::BYTES as u8))
+        .pack()
 }
 
 // CP/M 2.2's disk parameter block.

@@ -7,22 +7,32 @@ ghost use Rattle.frames.specs.declared.Command.TheVariants.{Acknowledge, Read, W
 ghost use Rattle.frames.specs.Requests.{plain};
 ghost use Rattle.hinet.specs.FrameEntries.{disk_of, logout_of, login_of, named_of, string_of, Composes, read_word};
 
-use crate::{given, packing};
+use crate::given;
+use crate::packing::{Coded, Packed, Written};
 use frames::{Command, Request};
 
-// Writes the frame of a request.
+// Writes the frame of a request. No frame is longer than a byte says.
 fn compose(q: Request, buffer: &mut [u8]) -> u64
     ensures { Composes q buffer.old result buffer.new }
 {
-    let written = frames::write(q, buffer);
-    packing::pack_frame(written.refusal, written.length as u8)
+    match frames::write(q, buffer) {
+        Ok(length) => Written(length as u8).pack(),
+        Err(refusal) => refusal.pack(),
+    }
+}
+
+// The frame of a command without byte fields.
+fn write_plain(command: Command, buffer: &mut [u8]) -> u64
+    ensures { Composes (plain command) buffer.old result buffer.new }
+{
+    compose(frames::plain(command), buffer)
 }
 
 // 41: acknowledge.
 pub fn hinet_write_acknowledge(buffer: &mut [u8]) -> u64
     ensures { Composes (plain Acknowledge) buffer.old result buffer.new }
 {
-    compose(frames::plain(Command::Acknowledge), buffer)
+    write_plain(Command::Acknowledge, buffer)
 }
 
 // 11: read the sector at an address.
@@ -38,7 +48,7 @@ pub fn hinet_write_read(
 {
     let src = given::byte_of(src);
     let from = given::address_of(volume, partition, track, sector);
-    compose(frames::plain(Command::Read { src, address: from }), buffer)
+    write_plain(Command::Read { src, address: from }, buffer)
 }
 
 // 12: write the sector at an address.
@@ -54,19 +64,18 @@ pub fn hinet_write_write(
 {
     let src = given::byte_of(src);
     let to = given::address_of(volume, partition, track, sector);
-    compose(frames::plain(Command::Write { src, address: to }), buffer)
+    write_plain(Command::Write { src, address: to }, buffer)
 }
 
 // A request with name and password.
 fn named(command: Command, name: &[u8; 8], password: &[u8; 6]) -> Request
     ensures { result ≡ named_of command name.now password.now }
 {
-    let name = rows::eight_of(name, 0);
-    let password = rows::six_of(password, 0);
-    let mut q = frames::plain(command);
-    q.name = name;
-    q.password = password;
-    q
+    Request {
+        name: *name,
+        password: *password,
+        ..frames::plain(command)
+    }
 }
 
 // 13: login.
@@ -79,9 +88,10 @@ pub fn hinet_write_login(
 ) -> u64
     ensures { Composes (login_of name.now password.now serial.now product) buffer.old result buffer.new }
 {
-    let serial = rows::four_of(serial, 0);
-    let mut q = named(Command::Login { product }, name, password);
-    q.serial = serial;
+    let q = Request {
+        serial: *serial,
+        ..named(Command::Login { product }, name, password)
+    };
     compose(q, buffer)
 }
 
@@ -92,35 +102,36 @@ pub fn hinet_write_assign(name: &[u8; 8], password: &[u8; 6], buffer: &mut [u8])
     compose(named(Command::Assign, name, password), buffer)
 }
 
-// A request with a lock string.
-fn with_string(command: Command, lockstring: &[u8; 14]) -> Request
-    ensures { result ≡ string_of command (string_at lockstring.now 0) }
+// The frame of a command with a lock string.
+fn write_string(command: Command, lockstring: &[u8; 14], buffer: &mut [u8]) -> u64
+    ensures { Composes (string_of command (string_at lockstring.now 0)) buffer.old result buffer.new }
 {
-    let string = given::string_of(lockstring);
-    let mut q = frames::plain(command);
-    q.string = string;
-    q
+    let q = Request {
+        string: terms::string_at(lockstring, 0),
+        ..frames::plain(command)
+    };
+    compose(q, buffer)
 }
 
 // 19: lock.
 pub fn hinet_write_lock(lockstring: &[u8; 14], buffer: &mut [u8]) -> u64
     ensures { Composes (string_of Lock (string_at lockstring.now 0)) buffer.old result buffer.new }
 {
-    compose(with_string(Command::Lock, lockstring), buffer)
+    write_string(Command::Lock, lockstring, buffer)
 }
 
 // 1A: unlock.
 pub fn hinet_write_unlock(lockstring: &[u8; 14], buffer: &mut [u8]) -> u64
     ensures { Composes (string_of Unlock (string_at lockstring.now 0)) buffer.old result buffer.new }
 {
-    compose(with_string(Command::Unlock, lockstring), buffer)
+    write_string(Command::Unlock, lockstring, buffer)
 }
 
 // 1B: clear all locks.
 pub fn hinet_write_clear(buffer: &mut [u8]) -> u64
     ensures { Composes (plain Clear) buffer.old result buffer.new }
 {
-    compose(frames::plain(Command::Clear), buffer)
+    write_plain(Command::Clear, buffer)
 }
 
 // 1F: instant logout.
@@ -128,16 +139,15 @@ pub fn hinet_write_logout(src: u32, buffer: &mut [u8]) -> u64
     ensures { Composes (logout_of src) buffer.old result buffer.new }
 {
     let src = given::byte_of(src);
-    compose(frames::plain(Command::Logout { src }), buffer)
+    write_plain(Command::Logout { src }, buffer)
 }
 
 // Reads a frame by itself: 1, 3, 4, 6, or its code.
 pub fn hinet_read_frame(frame: &[u8]) -> u64
     ensures { Gives (read_word frame.now) result }
 {
-    let refusal = frames::read(frame).refusal;
-    if refusal != 0 {
-        return refusal as u64;
+    match frames::read(frame) {
+        Ok(_) => Coded(frame[0]).pack(),
+        Err(refusal) => refusal.pack(),
     }
-    packing::pack_request(frame[0])
 }

@@ -1,3 +1,2 @@
 pub mod DigitLaws
-pub mod WriteLaws
 pub mod LineLaws

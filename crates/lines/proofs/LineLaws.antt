@@ -1,10 +1,16 @@
 -- No line is longer than the room that is asked for it.
 use Prim.Native.Nat.{ℕ, ◌≤◌}
 use native.Mathlib.Omega.{arith}
+use mathlib.Core.List.{append_assoc}
 use lib.ListN.{length, length-append}
 use Rattle.master.specs.Answers.{Told, refuses, refuses_site, answers, refusal_number, no_bytes, status_byte, assign_bytes, place_at, login_as, turn_was, frame_made, request_of, bits_of, line_of, honor_flag}
-use Rattle.lines.proofs.DigitLaws.{decimal_long}
+use Rattle.lines.proofs.DigitLaws.{decimal_is, decimal_long}
 use Rattle.lines.specs.Line.{decimal, hex_byte, answer_text, column, columns, line_text}
+
+-- what is said of texts one behind another
+pub ruleset appending = (append_assoc, length-append)
+
+pub ruleset decimals = (decimal_is, decimal_long, length-append)
 
 pub answer_long : (t : Told) → length (answer_text t) ≤ 41
 unfolding answer_text hex_byte
@@ -38,3 +44,5 @@ columns_long index number refusal = simp length-append (omega (arith, number_lon
 pub line_long : (index number : ℕ) (t : Told) → length (line_text index number t) ≤ 87
 unfolding line_text
 line_long index number t = simp length-append (omega (arith, columns_long index number (refusal_number t), answer_long t))
+
+pub ruleset lengths = (append_assoc, length-append, columns_long, answer_long, line_long)

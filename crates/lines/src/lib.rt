@@ -1,193 +1,186 @@
 // The text of a session line, put down in lent bytes. specs/Line.antt says what it is.
 #![tactic(auto)]
 
-ghost use Rattle.std.specs.Prelude.{◌≡◌, [], ◌∷◌, ◌++◌, ◌+◌, ◌≤◌, ◌<◌, length, drop};
+ghost use Rattle.std.specs.Prelude.{◌≡◌, List, ℕ, [], ◌∷◌, ◌++◌, ◌+◌, ◌≤◌, ◌<◌, length};
 ghost use Rattle.master.specs.Answers.{told, refusal_number};
-ghost use Rattle.lines.specs.Line.{digit as digit_of, decimal, hex_byte, yes_or_no, answer_text, column, columns, line_text, COLON, ROOM, Writes};
+ghost use Rattle.lines.specs.Line.{digit as digit_of, decimal, hex_byte, yes_or_no, answer_text, column, columns, line_text, COLON, ROOM as ROOM_OF, Writes};
 
+use arrayvec::ArrayVec;
+use itoa::Buffer;
 use master::Answer;
+use site::Refused;
+use std::marker::Model;
 use terms::{Partition, Place, Volume};
 
-// The digits of a number: they end with the last byte and begin at `first`.
-#[derive(Clone, Copy)]
-struct Digits {
-    bytes: [u8; 20],
-    first: usize,
+// Room for a line, of which none takes more than 87 bytes.
+const ROOM: usize = 96;
+
+// The text so far of a line: it is put together here, and put down at once.
+#[derive(Drop)]
+struct Line {
+    text: ArrayVec<u8, ROOM>,
+}
+
+impl Model for Line {
+    ghost Value = { List ℕ };
+
+    ghost view = { λ line. line.text.items };
 }
 
 // The digit of a value below 16, with capital letters.
+#[tactic(auto, unfolding(crate::specs::Line::digit))]
 fn digit(d: u8) -> u8
     requires { d < 16 }
     ensures { result ≡ digit_of d }
 {
-    if d < 10 {
-        return b'0' + d;
-    }
-    b'A' + (d - 10)
+    if d < 10 { b'0' + d } else { b'A' + (d - 10) }
 }
 
-// The decimal digits of n, the last one first.
-fn digits_of(n: u64) -> Digits
-    ensures { (result.first < 20) × (drop result.first result.bytes ≡ decimal n) }
-{
-    let mut bytes = [0u8; 20];
-    let mut first: usize = 19;
-    let mut rest = n;
-    while 10 <= rest {
-        bytes[first] = digit((rest % 10) as u8);
-        first -= 1;
-        rest /= 10;
-    }
-    bytes[first] = digit(rest as u8);
-    Digits { bytes, first }
-}
-
-fn write_decimal(buffer: &mut [u8], at: usize, n: u64) -> usize
-    requires { at + 20 ≤ length buffer.old }
-    ensures { Writes (decimal n) buffer.old at result buffer.new }
-{
-    let digits = digits_of(n);
-    let bytes = digits.bytes;
-    let first = digits.first;
-    rows::put(buffer, at, &bytes[first..]);
-    at + (20 - first)
-}
-
-fn write_hex(buffer: &mut [u8], at: usize, b: u8) -> usize
-    requires { at + 2 ≤ length buffer.old }
-    ensures { Writes (hex_byte b) buffer.old at result buffer.new }
-{
-    let text = [digit(b / 16), digit(b % 16)];
-    rows::put(buffer, at, &text);
-    at + 2
-}
-
-fn write_byte(buffer: &mut [u8], at: usize, b: u8) -> usize
-    requires { at + 1 ≤ length buffer.old }
-    ensures { Writes (b ∷ []) buffer.old at result buffer.new }
-{
-    let text = [b];
-    rows::put(buffer, at, &text);
-    at + 1
-}
-
-// The refusal of an answer, 0 for none.
-fn refusal_of(answer: Answer) -> u8
-    ensures { result ≡ refusal_number (told answer) }
-{
-    match answer {
-        Answer::Refused(k) => k,
-        Answer::Faulty(_) => 10,
-        Answer::Nothing => 0,
-        Answer::Status(_) => 0,
-        Answer::Assigned { .. } => 0,
-        Answer::At(_) => 0,
-        Answer::LoggedIn { .. } => 0,
-    }
-}
-
-// Size code, partition number, control, volume.
-fn write_assigned(
-    buffer: &mut [u8],
-    at: usize,
-    size: u8,
-    partition: Partition,
-    control: u8,
-    volume: Volume,
-) -> usize
-    requires { at + 8 ≤ length buffer.old }
-    ensures { Writes (hex_byte size ++ (hex_byte partition.0 ++ (hex_byte control ++ hex_byte volume.0))) buffer.old at result buffer.new }
-{
-    let a = write_hex(buffer, at, size);
-    let b = write_hex(buffer, a, partition.0);
-    let c = write_hex(buffer, b, control);
-    write_hex(buffer, c, volume.0)
-}
-
-// Volume and sector, both in decimal.
-fn write_place(buffer: &mut [u8], at: usize, place: Place) -> usize
-    requires { at + 41 ≤ length buffer.old }
-    ensures { Writes (decimal place.volume.0 ++ (COLON ∷ decimal place.sector)) buffer.old at result buffer.new }
-{
-    let volume = place.volume.0;
-    let sector = place.sector;
-    let a = write_decimal(buffer, at, volume as u64);
-    let b = write_byte(buffer, a, b':');
-    write_decimal(buffer, b, sector as u64)
-}
-
+// Y for yes.
+#[tactic(auto, unfolding(crate::specs::Line::yes_or_no))]
 fn yes_or_no(found: bool) -> u8
     ensures { result ≡ yes_or_no found }
 {
     if found { b'Y' } else { b'N' }
 }
 
-// The number in hex, and whether the name was found.
-fn write_login(buffer: &mut [u8], at: usize, number: u8, found: bool) -> usize
-    requires { at + 3 ≤ length buffer.old }
-    ensures { Writes (hex_byte number ++ (yes_or_no found ∷ [])) buffer.old at result buffer.new }
-{
-    let a = write_hex(buffer, at, number);
-    write_byte(buffer, a, yes_or_no(found))
-}
+impl Line {
+    fn new() -> Line
+        ensures { result ≡ [] }
+    {
+        Line {
+            text: ArrayVec::new(),
+        }
+    }
 
-fn write_answer(buffer: &mut [u8], at: usize, answer: Answer) -> usize
-    requires { at + 41 ≤ length buffer.old }
-    ensures { Writes (answer_text (told answer)) buffer.old at result buffer.new }
-{
-    match answer {
-        Answer::Refused(_) => write_byte(buffer, at, b'-'),
-        Answer::Faulty(_) => write_byte(buffer, at, b'-'),
-        Answer::Nothing => write_byte(buffer, at, b'-'),
-        Answer::Status(status) => write_hex(buffer, at, status),
-        Answer::Assigned {
-            size,
-            partition,
-            control,
-            volume,
-        } => write_assigned(buffer, at, size, partition, control, volume),
-        Answer::At(place) => write_place(buffer, at, place),
-        Answer::LoggedIn {
-            number,
-            found,
-            serial: _,
-        } => write_login(buffer, at, number, found),
+    fn byte(&mut self, b: u8)
+        requires { length self.old + 1 ≤ 96 }
+        ensures text { self.new ≡ self.old ++ b ∷ [] }
+        ensures len { length self.new ≡ length self.old + 1 }
+    {
+        self.text.push(b);
+    }
+
+    #[tactic(auto, using(crate::proofs::LineLaws::decimals))]
+    fn decimal(&mut self, n: u64)
+        requires { length self.old + 20 ≤ 96 }
+        ensures text { self.new ≡ self.old ++ decimal n }
+        ensures len { length self.new ≤ length self.old + 20 }
+    {
+        let mut digits = Buffer::new();
+        self.text
+            .try_extend_from_slice(digits.format(n).as_bytes())
+            .unwrap();
+    }
+
+    #[tactic(auto, using(crate::proofs::LineLaws::appending), unfolding(crate::specs::Line::hex_byte))]
+    fn hex(&mut self, b: u8)
+        requires { length self.old + 2 ≤ 96 }
+        ensures text { self.new ≡ self.old ++ hex_byte b }
+        ensures len { length self.new ≡ length self.old + 2 }
+    {
+        self.text.push(digit(b / 16));
+        self.text.push(digit(b % 16));
+    }
+
+    // Size code, partition number, control, volume.
+    #[tactic(auto, using(crate::proofs::LineLaws::appending))]
+    fn assigned(&mut self, size: u8, partition: Partition, control: u8, volume: Volume)
+        requires { length self.old + 8 ≤ 96 }
+        ensures { self.new ≡ self.old ++ (hex_byte size ++ (hex_byte partition.0 ++ (hex_byte control ++ hex_byte volume.0))) }
+    {
+        self.hex(size);
+        self.hex(partition.0);
+        self.hex(control);
+        self.hex(volume.0);
+    }
+
+    // Volume and sector, both in decimal.
+    #[tactic(auto, using(crate::proofs::LineLaws::appending))]
+    fn place(&mut self, place: Place)
+        requires { length self.old + 41 ≤ 96 }
+        ensures { self.new ≡ self.old ++ (decimal place.volume.0 ++ (COLON ∷ decimal place.sector)) }
+    {
+        self.decimal(u64::from(place.volume.0));
+        self.byte(b':');
+        self.decimal(u64::from(place.sector));
+    }
+
+    // The number in hex, and whether the name was found.
+    #[tactic(auto, using(crate::proofs::LineLaws::appending))]
+    fn login(&mut self, number: u8, found: bool)
+        requires { length self.old + 3 ≤ 96 }
+        ensures { self.new ≡ self.old ++ (hex_byte number ++ (yes_or_no found ∷ [])) }
+    {
+        self.hex(number);
+        self.byte(yes_or_no(found));
+    }
+
+    // The columns before the answer, each with a space behind it.
+    #[tactic(auto, using(crate::proofs::LineLaws::appending), unfolding(crate::specs::Line::columns, crate::specs::Line::column))]
+    fn columns(&mut self, index: u64, number: u8, refusal: u8)
+        requires { length self.old + 45 ≤ 96 }
+        ensures { self.new ≡ self.old ++ columns index number refusal }
+    {
+        self.decimal(index);
+        self.byte(b' ');
+        self.hex(number);
+        self.byte(b' ');
+        self.decimal(u64::from(refusal));
+        self.byte(b' ');
+    }
+
+    // What the master answers; a dash stands for a refusal and for nothing to tell.
+    #[tactic(auto, unfolding(crate::specs::Line::answer_text, master::specs::Answers::told, master::specs::Answers::fault_told))]
+    fn answer(&mut self, answer: Result<Answer, Refused>)
+        requires { length self.old + 41 ≤ 96 }
+        ensures { self.new ≡ self.old ++ answer_text (told answer) }
+    {
+        match answer {
+            Err(_) | Ok(Answer::Nothing) => self.byte(b'-'),
+            Ok(Answer::Status(status)) => self.hex(u8::from(status)),
+            Ok(
+                Answer::Assigned {
+                    size,
+                    partition,
+                    control,
+                    volume,
+                },
+            ) => self.assigned(size, partition, control, volume),
+            Ok(Answer::At(place)) => self.place(place),
+            Ok(Answer::LoggedIn { number, found, .. }) => self.login(number, found),
+        }
     }
 }
 
-// A decimal number and a space.
-fn write_number(buffer: &mut [u8], at: usize, n: u64) -> usize
-    requires { at + 21 ≤ length buffer.old }
-    ensures { Writes (column (decimal n)) buffer.old at result buffer.new }
+// The refusal of an answer, 0 for none.
+#[tactic(auto, unfolding(master::specs::Answers::told, master::specs::Answers::refusal_number, master::specs::Answers::fault_told))]
+fn refusal_of(answer: Result<Answer, Refused>) -> u8
+    ensures { result ≡ refusal_number (told answer) }
 {
-    let a = write_decimal(buffer, at, n);
-    write_byte(buffer, a, b' ')
-}
-
-// The number polled in hex, and a space.
-fn write_polled(buffer: &mut [u8], at: usize, number: u8) -> usize
-    requires { at + 3 ≤ length buffer.old }
-    ensures { Writes (column (hex_byte number)) buffer.old at result buffer.new }
-{
-    let a = write_hex(buffer, at, number);
-    write_byte(buffer, a, b' ')
-}
-
-fn write_columns(buffer: &mut [u8], at: usize, index: u64, number: u8, refusal: u8) -> usize
-    requires { at + 45 ≤ length buffer.old }
-    ensures { Writes (columns index number refusal) buffer.old at result buffer.new }
-{
-    let a = write_number(buffer, at, index);
-    let b = write_polled(buffer, a, number);
-    write_number(buffer, b, refusal as u64)
+    match answer {
+        Ok(_) => 0,
+        Err(refused) => refused.number(),
+    }
 }
 
 // One line of a session, put down at `at`. Its end is answered.
-pub fn write_line(buffer: &mut [u8], at: usize, index: u64, number: u8, answer: Answer) -> usize
-    requires { at + ROOM ≤ length buffer.old }
+#[tactic(auto, using(crate::proofs::LineLaws::lengths), unfolding(crate::specs::Line::line_text))]
+pub fn write_line(
+    buffer: &mut [u8],
+    at: usize,
+    index: u64,
+    number: u8,
+    answer: Result<Answer, Refused>,
+) -> usize
+    requires { at + ROOM_OF ≤ length buffer.old }
     ensures { Writes (line_text index number (told answer)) buffer.old at result buffer.new }
 {
-    let a = write_columns(buffer, at, index, number, refusal_of(answer));
-    let b = write_answer(buffer, a, answer);
-    write_byte(buffer, b, b'\n')
+    let mut line = Line::new();
+    line.columns(index, number, refusal_of(answer));
+    line.answer(answer);
+    line.byte(b'\n');
+    let text = line.text.as_slice();
+    rows::put(buffer, at, text);
+    at + text.len()
 }

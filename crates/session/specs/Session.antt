@@ -2,7 +2,6 @@
 use Rattle.std.specs.Prelude.{ℕ, zero, suc, ◌+◌, ◌≤◌, ◌≡◌, cond, List, [], ◌∷◌, ◌++◌, length, take, drop}
 use Rattle.rows.specs.Rows.{over}
 use Rattle.lines.specs.Line.{line_text, Writes}
-use Rattle.session.specs.declared.block.Played.{Played}
 use Rattle.session.specs.Records.{number, frame, record_size, whole}
 use Rattle.master.specs.Effects.{Effect}
 use Rattle.master.specs.Frames.{frame_effect}
@@ -66,6 +65,12 @@ pub record Adds (i n : ℕ) (f s t w o : List ℕ) (used r : ℕ) (t' w' o' : Li
   pub line : Writes (line_text i n (frame_effect n f s t w).tells) o used r o'
   pub locks : t' ≡ (frame_effect n f s t w).locks
   pub records : w' ≡ (frame_effect n f s t w).records
+
+-- what was played of a block: its bytes up to `at`; the index of the next record; the bytes that its lines take
+pub record Played : Type 0 where
+  pub at : ℕ
+  pub index : ℕ
+  pub used : ℕ
 
 -- a block of input f from record i on: its whole records are played, and their lines stand at the start of the output o.
 -- The last three are said for the arithmetic of the caller

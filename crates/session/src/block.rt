@@ -1,86 +1,80 @@
 // A block of input: its whole records are served one after the other, and a line is written for each.
-ghost use Rattle.std.specs.Prelude.{◌≡◌, ◌+◌, ◌*◌, ◌^◌, ◌≤◌, ◌<◌, length, drop};
+ghost use Rattle.std.specs.Prelude.{◌≡◌, true, false, ◌+◌, ◌*◌, ◌^◌, ◌≤◌, ◌<◌, MatchOption, length, take, drop};
 ghost use Rattle.lines.specs.Line.{ROOM};
-ghost use Rattle.session.specs.Records.{whole_size};
+ghost use Rattle.session.specs.Records.{number, record_size, whole};
 ghost use Rattle.session.specs.Session.{Adds, Plays};
 
-// What was played of a block: its bytes up to `at`; the index of the next record; the bytes that its lines take.
+// A session between two records: the site file, the index of the next record, and the tables.
+#[derive(Drop)]
+pub struct Session<'a> {
+    pub site: &'a [u8],
+    pub index: u64,
+    pub locks: [u8; locks::BYTES],
+    pub records: [u8; who::BYTES],
+}
+
+// What was played of a block: its bytes up to `at`, and the bytes that its lines take.
 #[derive(Clone, Copy)]
 pub struct Played {
     pub at: usize,
-    pub index: u64,
     pub used: usize,
 }
 
-// The bytes of the record at `at`, 0 where it is not whole.
-fn record_size(input: &[u8], at: usize) -> usize
-    requires { at ≤ length input.now }
-    ensures { result ≡ whole_size (drop at input.now) }
+// The record at the front of the input, where it is whole.
+fn first_record(input: &[u8]) -> Option<&[u8]>
+    ensures { MatchOption result (whole input.now ≡ false) (λ record. (whole input.now ≡ true) × (record.now ≡ take (record_size input.now) input.now)) }
 {
-    let left = input.len() - at;
-    if left < 2 {
-        return 0;
-    }
-    let size = 2 + rows::index_of(input[at + 1]);
-    if left < size {
-        return 0;
-    }
-    size
+    let size = 2 + usize::from(*input.get(1)?);
+    input.get(..size)
 }
 
-// Serves one record and writes its line. The line's end is answered.
-fn play_record(
-    number: u8,
-    frame: &[u8],
-    index: u64,
-    site: &[u8],
-    locks: &mut [u8],
-    records: &mut [u8],
-    output: &mut [u8],
-    used: usize,
-) -> usize
-    requires { used + ROOM ≤ length output.old }
-    ensures { Adds index number frame.now site.now locks.old records.old output.old used result locks.new records.new output.new }
-{
-    let answer = master::serve(number as u32, frame, site, locks, records);
-    lines::write_line(output, used, index, number, answer)
-}
-
-// Plays the whole records of the input. There is room for their lines: a record has two bytes or more.
-pub fn play(
-    input: &[u8],
-    index: u64,
-    site: &[u8],
-    locks: &mut [u8],
-    records: &mut [u8],
-    output: &mut [u8],
-) -> Played
-    requires input_in_bounds { 48 * length input.now ≤ length output.old }
-    requires input_bound { index + length input.now < 2 ^ 64 }
-    ensures { Plays input.now index site.now locks.old records.old output.old result locks.new records.new output.new }
-{
-    let mut at: usize = 0;
-    let mut next = index;
-    let mut used: usize = 0;
-    let mut size = record_size(input, 0);
-    while size != 0 {
-        used = play_record(
-            input[at],
-            rows::part(input, at + 2, size - 2),
-            next,
+impl<'a> Session<'a> {
+    // A session that begins: fresh tables.
+    pub fn new(site: &'a [u8]) -> Session<'a>
+        ensures { (result.site.now ≡ site.now) × (result.index ≡ 0) }
+    {
+        let mut locks = [0u8; locks::BYTES];
+        let mut records = [0u8; who::BYTES];
+        let _ = master::fresh(&mut locks, &mut records);
+        Session {
             site,
+            index: 0,
             locks,
             records,
-            output,
-            used,
-        );
-        at += size;
-        next += 1;
-        size = record_size(input, at);
+        }
     }
-    Played {
-        at,
-        index: next,
-        used,
+
+    // Serves one record and writes its line, whose end is answered.
+    fn play_record(&mut self, record: &[u8], output: &mut [u8], used: usize) -> usize
+        requires { (2 ≤ length record.now) × (used + ROOM ≤ length output.old) × (self.old.index + 1 < 2 ^ 64) }
+        ensures adds { Adds self.old.index (number record.now) (drop 2 record.now) self.old.site.now self.old.locks self.old.records output.old used result self.new.locks self.new.records output.new }
+        ensures next { (self.new.index ≡ self.old.index + 1) × (self.new.site.now ≡ self.old.site.now) }
+    {
+        let answer = master::serve(
+            u32::from(record[0]),
+            &record[2..],
+            self.site,
+            &mut self.locks,
+            &mut self.records,
+        );
+        let end = lines::write_line(output, used, self.index, record[0], answer);
+        self.index += 1;
+        end
+    }
+
+    // Plays the whole records of the input. There is room for their lines: a record has two bytes or more.
+    pub fn play(&mut self, input: &[u8], output: &mut [u8]) -> Played
+        requires input_in_bounds { 48 * length input.now ≤ length output.old }
+        requires input_bound { self.old.index + length input.now < 2 ^ 64 }
+        ensures plays { Plays input.now self.old.index self.old.site.now self.old.locks self.old.records output.old (record { at = result.at; index = self.new.index; used = result.used }) self.new.locks self.new.records output.new }
+        ensures same_site { self.new.site.now ≡ self.old.site.now }
+    {
+        let mut at = 0;
+        let mut used = 0;
+        while let Some(record) = first_record(&input[at..]) {
+            used = self.play_record(record, output, used);
+            at += record.len();
+        }
+        Played { at, used }
     }
 }

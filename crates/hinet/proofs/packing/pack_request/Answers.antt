@@ -1,7 +1,0 @@
-use Rattle.hinet.specs.Packing.{word}
-use mathlib.Core.Path.{refl}
-use Rattle.hinet.proofs.packing.pack_request.Goals as goal
-
-pub returns : goal.returns
-unfolding word
-returns c = refl

@@ -1,5 +1,0 @@
-use Rattle.hinet.proofs.FrameLaws.{composed}
-use Rattle.hinet.proofs.requests.hinet_write_lock.Goals as goal
-
-pub returns : goal.returns
-returns c = composed _ c.with_string.ensures c.compose.ensures

@@ -1,5 +1,0 @@
-use Rattle.hinet.proofs.StationLaws.{stepped}
-use Rattle.hinet.proofs.station_end.hinet_station_fresh.Goals as goal
-
-pub returns : goal.returns
-returns c = stepped _ _ _ c.pack_step.ensures c.fresh.ensures
