@@ -1,158 +1,86 @@
 // The command boot: what a login is given to load, by the tables in a folder. What that is, the crate `boot` alone says.
 ghost use Rattle.std.specs.Prelude.{◌≤◌, ◌<◌};
-ghost use Rattle.files.specs.Counts.{IsPrefixLen};
 
-use crate::{FAILED, LINE, NAME, argument, misused, name_file, refuse_name, say, status_of};
-use boot::Booted;
-use files::{Errors, Reach};
-use pages::{Told, append};
+use crate::{LINE, NAME, Status, argument, file_named, misused, refuse_name, say};
+use boot::{Honor, Login, Tables};
+use files::Errors;
+use pages::Page;
 use std::rt::{Env, Files};
 
-// Room for each table at its limit and a byte more, by which one that is too long is known.
-const MACHINES: usize = 1537;
-
-const PRODUCTS: usize = 1001;
-
-const USERS: usize = 2049;
-
-const CONFIGURATIONS: usize = 8193;
-
-const SYSTEMS: usize = 12289;
-
-const DIRECTORY: usize = 3073;
-
-// Reads the table of this name. It has failed too where a table before it has.
-fn read_table<R: Files + Errors>(
+// Reads the table of this name.
+fn read_table<'a, R: Files + Errors>(
     rt: &R,
     folder: &[u8],
     name: &[u8],
-    table: &mut [u8],
-    failed: bool,
-) -> Reach
-    ensures { IsPrefixLen result.end table.new }
-{
-    let mut path = [0u8; LINE];
-    let a = append(&mut path, 0, folder);
-    let b = append(&mut path, a, b"/");
-    let c = append(&mut path, b, name);
+    table: &'a mut [u8],
+) -> Option<&'a [u8]> {
+    let mut room = [0u8; LINE];
+    let mut path = Page::new(&mut room);
+    path.append(folder);
+    path.append(b"/");
+    path.append(name);
     let mut what = [0u8; LINE];
-    let n = name_file(&mut what, &path[..c]);
-    let reach = files::read_file(rt, &path[..c], &what[..n], table);
-    Reach {
-        end: reach.end,
-        failed: failed | reach.failed,
+    let read = files::read_file(rt, path.text(), table);
+    let n = files::or_tell(rt, file_named(&mut what, path.text()).text(), read)?;
+    Some(&table[..n])
+}
+
+// Tells what the tables give a login.
+fn append_answer(page: &mut Page, login: &Login, tables: &Tables) -> Status {
+    let mut block = [0u8; boot::BLOCK];
+    match boot::boot(login, tables, &mut block) {
+        Ok(honor) => {
+            blocks::append_honored(page, honor, &block, tables.directory);
+            Status::of(honor != Honor::Nothing)
+        }
+        Err(refusal) => {
+            blocks::append_refused(page, refusal);
+            Status::Broken
+        }
     }
 }
 
-// What the tables give a login.
-fn append_answer(
-    page: &mut [u8],
-    serial: &[u8; 4],
-    name: &[u8; 8],
-    password: &[u8; 6],
-    machines: &[u8],
-    products: &[u8],
-    users: &[u8],
-    configurations: &[u8],
-    systems: &[u8],
-    directory: &[u8],
-) -> Told
-    ensures { IsPrefixLen result.end page.new }
-{
-    let mut data = [0u8; boot::BLOCK];
-    let booted = boot::boot(
-        serial,
-        name,
-        password,
-        machines,
-        products,
-        users,
-        configurations,
-        systems,
-        directory,
-        &mut data,
-    );
-    match booted {
-        Booted::Refused(k) => Told {
-            end: blocks::append_refused(page, k),
-            good: false,
-        },
-        Booted::Honors(flag) => blocks::append_honored(page, flag, &data, directory),
-    }
+// Prints what the tables give a login.
+fn print_answer<R: Print + Errors>(rt: &R, login: &Login, tables: &Tables) -> Option<Status> {
+    let mut room = [0u8; blocks::PAGE];
+    let mut page = Page::new(&mut room);
+    let status = append_answer(&mut page, login, tables);
+    say(rt, page.text(), status)
 }
 
-// Reads the other three tables of the folder, and prints what all six give a login.
-fn print_answer<R: Files + Print + Errors>(
-    rt: &R,
-    folder: &[u8],
-    serial: &[u8; 4],
-    name: &[u8; 8],
-    password: &[u8; 6],
-    machines: &[u8],
-    products: &[u8],
-    users: &[u8],
-    failed: bool,
-) -> u8 {
-    let mut configurations = [0u8; CONFIGURATIONS];
-    let mut systems = [0u8; SYSTEMS];
-    let mut directory = [0u8; DIRECTORY];
-    let c = read_table(rt, folder, b"configurations", &mut configurations, failed);
-    let s = read_table(rt, folder, b"systems", &mut systems, c.failed);
-    let d = read_table(rt, folder, b"directory", &mut directory, s.failed);
-    if d.failed {
-        return FAILED;
-    }
-    let mut page = [0u8; blocks::PAGE];
-    let told = append_answer(
-        &mut page,
-        serial,
-        name,
-        password,
-        machines,
-        products,
-        users,
-        &configurations[..c.end],
-        &systems[..s.end],
-        &directory[..d.end],
-    );
-    let end = told.end;
-    say(rt, &page[..end], status_of(told.good)).status
-}
-
-// Reads three tables of the folder and goes on to the others, even where one has failed, so that each that does is told.
-fn answer<R: Files + Print + Errors>(
-    rt: &R,
-    folder: &[u8],
-    serial: &[u8; 4],
-    name: &[u8; 8],
-    password: &[u8; 6],
-) -> u8 {
-    let mut machines = [0u8; MACHINES];
-    let mut products = [0u8; PRODUCTS];
-    let mut users = [0u8; USERS];
-    let m = read_table(rt, folder, b"machines", &mut machines, false);
-    let p = read_table(rt, folder, b"products", &mut products, m.failed);
-    let u = read_table(rt, folder, b"users", &mut users, p.failed);
-    print_answer(
-        rt,
-        folder,
-        serial,
-        name,
-        password,
-        &machines[..m.end],
-        &products[..p.end],
-        &users[..u.end],
-        u.failed,
-    )
+// Reads the tables of the folder, into room for each at its limit and a byte more, by which one that is too long is known.
+// Each that cannot be read is told, even where one before it was; where all can, goes on to what they give a login.
+fn answer<R: Files + Print + Errors>(rt: &R, folder: &[u8], login: &Login) -> Option<Status> {
+    let mut machines = [0u8; 1537];
+    let mut products = [0u8; 1001];
+    let mut users = [0u8; 2049];
+    let mut configurations = [0u8; 8193];
+    let mut systems = [0u8; 12289];
+    let mut directory = [0u8; 3073];
+    let machines = read_table(rt, folder, b"machines", &mut machines);
+    let products = read_table(rt, folder, b"products", &mut products);
+    let users = read_table(rt, folder, b"users", &mut users);
+    let configurations = read_table(rt, folder, b"configurations", &mut configurations);
+    let systems = read_table(rt, folder, b"systems", &mut systems);
+    let directory = read_table(rt, folder, b"directory", &mut directory);
+    let tables = Tables {
+        machines: machines?,
+        products: products?,
+        users: users?,
+        configurations: configurations?,
+        systems: systems?,
+        directory: directory?,
+    };
+    print_answer(rt, login, &tables)
 }
 
 // Takes SERIAL, NAME and PASSWORD from the last three words.
-fn log_in<R: Env + Files + Print + Errors>(rt: &R, folder: &[u8], count: usize) -> u8
+fn log_in<R: Env + Files + Print + Errors>(rt: &R, folder: &[u8], count: usize) -> Option<Status>
     requires { 3 ≤ count }
 {
     let mut text = [0u8; 8];
-    let n = argument(rt, count - 3, &mut text);
-    if pages::bytes_of(&mut text, n) != 4 {
+    let mut serial = [0u8; 4];
+    if hex::decode_to_slice(argument(rt, count - 3, &mut text), &mut serial).is_err() {
         return misused(rt, b"boot: SERIAL is eight hex digits", b"");
     }
     let mut name = [0u8; 8];
@@ -163,11 +91,16 @@ fn log_in<R: Env + Files + Print + Errors>(rt: &R, folder: &[u8], count: usize) 
     if rt.arg(count - 1, &mut password).is_err() {
         return misused(rt, b"boot: PASSWORD has more than 6 characters", b"");
     }
-    answer(rt, folder, &rows::four_of(&text, 0), &name, &password)
+    let login = Login {
+        serial: &serial,
+        name: &name,
+        password: &password,
+    };
+    answer(rt, folder, &login)
 }
 
 // The command, which argument i is: what follows it is a folder, a serial number, a name and a password.
-pub fn run<R: Env + Files + Print + Errors>(rt: &R, i: usize, count: usize) -> u8
+pub fn run<R: Env + Files + Print + Errors>(rt: &R, i: usize, count: usize) -> Option<Status>
     requires { i < count }
 {
     if count - i != 5 {
@@ -176,6 +109,6 @@ pub fn run<R: Env + Files + Print + Errors>(rt: &R, i: usize, count: usize) -> u
     let mut folder = [0u8; NAME];
     match rt.arg(i + 1, &mut folder) {
         Ok(n) => log_in(rt, &folder[..n], count),
-        Err(_) => refuse_name(rt, &folder).status,
+        Err(_) => Some(refuse_name(rt, &folder)),
     }
 }
