@@ -47,19 +47,6 @@ pub fn fill(s: &mut [u8], n: usize, r: &[u8])
     }
 }
 
-// A byte as a wider number, and as an index.
-pub fn wide(b: u8) -> u32
-    ensures { (result ≡ b) × (result < 256) }
-{
-    b as u32
-}
-
-pub fn index_of(b: u8) -> usize
-    ensures { (result ≡ b) × (result < 256) }
-{
-    b as usize
-}
-
 // The N bytes of s that begin at `at`, by value.
 pub fn array_at<const N: usize>(s: &[u8], at: usize) -> [u8; N]
     requires { at + N ≤ length s.now }
@@ -195,6 +182,7 @@ pub fn is_same(a: &[u8], b: &[u8]) -> bool
 }
 
 // The first of n rows of w bytes that begins with these bytes.
+#[tactic(auto, using(crate::proofs::IndexLaws::search_on, crate::proofs::IndexLaws::search_hit, crate::proofs::IndexLaws::search_ends, crate::proofs::RowLaws::row_end), unfolding(crate::specs::Rows::begins, crate::specs::Words::any))]
 pub fn find(table: &[u8], w: usize, n: usize, bytes: &[u8]) -> Option<usize>
     requires { (w * n ≤ length table.now) × (length bytes.now ≤ w) }
     ensures { Finds n (first (begins w table.now bytes.now) n) result }
