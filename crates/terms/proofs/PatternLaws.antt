@@ -15,8 +15,11 @@ use borrow.Author.Tests.{eqb-true, eq-eqb, ltb-true, ltb-false}
 use Rattle.rows.proofs.BoolLaws.{by_test, by_eq, both, iff}
 use Rattle.rows.proofs.IndexLaws.{all_at}
 use Rattle.rows.proofs.NumberLaws.{Bytes}
+use Rattle.rows.proofs.RowLaws.{part_end}
 use Rattle.rows.specs.Numbers.{low_first}
+use Rattle.rows.specs.Rows.{part}
 use Rattle.rows.specs.Words.{all}
+use Rattle.terms.specs.declared.names.Pattern.{Pattern}
 use Rattle.terms.specs.Names.{pads, keeping, trimmed, same_name}
 use Rattle.terms.specs.Shortcuts.{solid_bits, name_solid, name_word, name_mask, pattern_of, matches}
 use Rattle.terms.proofs.NameLaws.{Keeps, drops, stays, keeps, same_trimmed, trimmed_same}
@@ -208,7 +211,14 @@ pub padding_small : (x m : ℕ) → 64 ≤ m → 0 < solid_in x → padding_in x
 padding_small x m h some = omega (arith, (leading_top 64 (solid_in x) some (solid_fits x)).1)
 
 -- the pattern of eight bytes, from the number in them all
-module _ (l : List ℕ) (small : Bytes l) (eight : length l ≡ 8) (x : ℕ) (is : x ≡ low_first l) where
+module _ (l : List ℕ) (eight : length l ≡ 8) (x : ℕ) (read : x ≡ low_first (part l 0 8)) where
+  is : x ≡ low_first l
+  is = read ∙ ap low_first (part_end [] l 0 8 refl eight)
+
+  pub match_is : (p : Pattern) → eqb (bit_and x p.mask) p.word ≡ matches l p
+  unfolding matches
+  match_is p = ap (λ (y : ℕ). eqb (bit_and y p.mask) p.word) is
+
   pub solid_is : solid_in x ≡ name_solid l
   unfolding name_solid low_first
   solid_is = ap₂ (λ (y k : ℕ). bit_and y (solid_bits k)) is (sym eight)
@@ -217,20 +227,20 @@ module _ (l : List ℕ) (small : Bytes l) (eight : length l ≡ 8) (x : ℕ) (is
   unfolding low_first
   mask_is k = ap (mask_of k) (sym eight)
 
-  nothing_kept : solid_in x ≡ 0 → trimmed l ≡ []
-  nothing_kept e = by_eq (length (trimmed l)) 0
+  nothing_kept : Bytes l → solid_in x ≡ 0 → trimmed l ≡ []
+  nothing_kept small e = by_eq (length (trimmed l)) 0
       (no_length (trimmed l))
       (λ ne. absurd (omega (arith, e, solid_is, (cut l small).above (omega (arith, ne)), pow_pos (8 * length (trimmed l)))))
 
-  pub pattern_none : solid_in x ≡ 0 → record { word = 0; mask = 16131858542891098079 } ≡ pattern_of l
+  pub pattern_none : Bytes l → solid_in x ≡ 0 → record { word = 0; mask = 16131858542891098079 } ≡ pattern_of l
   unfolding pattern_of name_word name_mask low_first
-  pattern_none e =
-      let none = sym (nothing_kept e) in
+  pattern_none small e =
+      let none = sym (nothing_kept small e) in
       ap₂ (λ (w m : ℕ). record { word = w; mask = m }) (ap low_first none) (mask_is 0 ∙ ap (λ (t : List ℕ). mask_of (length t) (length l)) none)
 
-  pub pattern_some : 0 < solid_in x → record { word = bit_and x (18446744073709551615 / 2 ^ padding_in x); mask = bit_or (18446744073709551615 / 2 ^ padding_in x) 16131858542891098079 } ≡ pattern_of l
+  pub pattern_some : Bytes l → 0 < solid_in x → record { word = bit_and x (18446744073709551615 / 2 ^ padding_in x); mask = bit_or (18446744073709551615 / 2 ^ padding_in x) 16131858542891098079 } ≡ pattern_of l
   unfolding pattern_of name_word name_mask
-  pattern_some some = ap₂ (λ (w m : ℕ). record { word = w; mask = m }) (ap₂ bit_and is ones ∙ and_mask (low_first l) (8 * length (trimmed l)) ∙ (cut l small).kept) (ap (λ (k : ℕ). bit_or k 16131858542891098079) ones ∙ mask_is (length (trimmed l)))
+  pattern_some small some = ap₂ (λ (w m : ℕ). record { word = w; mask = m }) (ap₂ bit_and is ones ∙ and_mask (low_first l) (8 * length (trimmed l)) ∙ (cut l small).kept) (ap (λ (k : ℕ). bit_or k 16131858542891098079) ones ∙ mask_is (length (trimmed l)))
     where
       padding_is : 8 * length (trimmed l) + padding_in x ≡ 64
       padding_is =

@@ -99,6 +99,7 @@ fn used(len: u8) -> usize
 }
 
 // The length is 1 to 13.
+#[tactic(auto, unfolding(crate::specs::Strings::legal))]
 pub fn is_legal(s: LockString) -> bool
     ensures { Gives (legal s) result }
 {
@@ -106,6 +107,7 @@ pub fn is_legal(s: LockString) -> bool
 }
 
 // The string that stands at `at`, its length first, by value.
+#[tactic(auto, unfolding(crate::specs::Strings::string_at))]
 pub fn string_at(bytes: &[u8], at: usize) -> LockString
     requires { at + 14 ≤ length bytes.now }
     ensures { result ≡ string_at bytes.now at }
@@ -117,6 +119,7 @@ pub fn string_at(bytes: &[u8], at: usize) -> LockString
 }
 
 // Puts the string down at `at`, its length first: fourteen bytes in all.
+#[tactic(auto, using(rows::proofs::RowLaws::put_next))]
 pub fn put_string(bytes: &mut [u8], at: usize, s: LockString)
     requires { at + 14 ≤ length bytes.old }
     ensures { (bytes.new ≡ put bytes.old at (string_bytes s)) × (length (string_bytes s) ≡ 14) }
@@ -126,6 +129,7 @@ pub fn put_string(bytes: &mut [u8], at: usize, s: LockString)
 }
 
 // The bytes of the string that stands at `at`, as many as its length says, where they stand.
+#[tactic(auto, using(crate::proofs::StringLaws::key_part))]
 fn key_at(bytes: &[u8], at: usize) -> &[u8]
     requires { at + 14 ≤ length bytes.now }
     ensures { result.now ≡ key (string_at bytes.now at) }
@@ -134,6 +138,7 @@ fn key_at(bytes: &[u8], at: usize) -> &[u8]
 }
 
 // The hash of the string that stands at `at`: of its thirteen bytes, those after its length too.
+#[tactic(auto, using(crate::proofs::StringLaws::hash_string))]
 fn hash_at(bytes: &[u8], at: usize) -> usize
     requires { at + 14 ≤ length bytes.now }
     ensures { (result ≡ string_hash (string_at bytes.now at)) × (result < 1024) }
@@ -145,6 +150,7 @@ fn hash_at(bytes: &[u8], at: usize) -> usize
 }
 
 // The string with zeros after its length.
+#[tactic(auto, using(crate::proofs::StringLaws::key_used, rows::proofs::RowLaws::over_first), unfolding(crate::specs::Strings::normal))]
 pub fn normal(s: LockString) -> LockString
     ensures { Gives (normal_of s) result }
 {

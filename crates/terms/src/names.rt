@@ -8,6 +8,7 @@ use rows::LowFirst;
 const SOLID: u64 = 0xDFDF_DFDF_DFDF_DFDF;
 
 // What is solid of a name, by which names are told apart at a glance. Of equal names it is equal.
+#[tactic(auto, using(crate::proofs::PatternLaws::solid_is))]
 pub fn solid_of(name: &[u8]) -> u64
     requires { length name.now ≡ 8 }
     ensures { result ≡ name_solid name.now }
@@ -24,6 +25,7 @@ pub struct Pattern {
 
 // The pattern of a name. The zeros and spaces at its end are the highest bytes of its number: those above the highest bit that
 // is solid.
+#[tactic(auto, using(crate::proofs::PatternLaws::padding_small))]
 pub fn pattern_of(name: &[u8]) -> Pattern
     requires { length name.now ≡ 8 }
     ensures { result ≡ pattern_of name.now }
@@ -45,6 +47,7 @@ pub fn pattern_of(name: &[u8]) -> Pattern
 }
 
 // A name has this pattern.
+#[tactic(auto, using(crate::proofs::PatternLaws::match_is))]
 pub fn matches(name: &[u8], pattern: Pattern) -> bool
     requires { length name.now ≡ 8 }
     ensures { result ≡ is_match name.now pattern }

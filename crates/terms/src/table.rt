@@ -24,13 +24,14 @@ pub struct Table<'a> {
 
 impl Table<'_> {
     ghost use Rattle.std.specs.Prelude.{◌≡◌, ℕ, true, false, ◌&&◌, ◌<◌, eqb};
-    ghost use Rattle.rows.specs.Outcomes.{Gives, Finds};
+    ghost use Rattle.rows.specs.Outcomes.{Finds};
     ghost use Rattle.rows.specs.Words.{all, first, same};
     ghost use Rattle.terms.specs.Strings.{string_at, key, normal};
     ghost use Rattle.terms.specs.Tables.{row_free, row_string, row_holds, row_alone};
     ghost use Rattle.terms.specs.Shortcuts.{string_hash, row_has_key};
 
     // Row i is free.
+    #[tactic(auto, using(crate::proofs::TableLaws::free_at_lem))]
     fn is_free(&self, i: usize) -> bool
         requires { i < self.now.count }
         ensures { result ≡ row_free self.now.shape self.now.bytes.now i }
@@ -48,6 +49,7 @@ impl Table<'_> {
     }
 
     // Row i is used and holds the string of this length and these bytes. They are compared where they stand.
+    #[tactic(auto, using(crate::proofs::TableLaws::string_at_lem), unfolding(crate::specs::Shortcuts::row_has_key, crate::specs::Strings::string_at))]
     fn holds(&self, i: usize, len: u8, own: &[u8]) -> bool
         requires { i < self.now.count }
         ensures { result ≡ row_has_key self.now.shape self.now.bytes.now len own.now i }
@@ -59,6 +61,7 @@ impl Table<'_> {
     }
 
     // The first of n rows that holds it.
+    #[tactic(auto, using(rows::proofs::IndexLaws::search_on, rows::proofs::IndexLaws::search_hit, rows::proofs::IndexLaws::search_ends), unfolding(rows::specs::Words::any))]
     fn find_key(&self, n: usize, len: u8, own: &[u8]) -> Option<usize>
         requires { n ≤ self.now.count }
         ensures { Finds n (first (row_has_key self.now.shape self.now.bytes.now len own.now) n) result }
@@ -72,6 +75,7 @@ impl Table<'_> {
     }
 
     // The first row that holds s.
+    #[tactic(auto, using(crate::proofs::StringLaws::key_used, crate::proofs::TableLaws::key_held))]
     pub fn find(&self, s: LockString) -> Option<usize>
         ensures { Finds self.now.count (first (row_holds self.now.shape self.now.bytes.now s) self.now.count) result }
     {
@@ -79,6 +83,7 @@ impl Table<'_> {
     }
 
     // Row i is free, or no earlier row holds its string: where its hash was not seen in an earlier row, none does.
+    #[tactic(auto, using(crate::proofs::TableLaws::string_at_lem, crate::proofs::TableLaws::key_held, crate::proofs::TableLaws::none_before), unfolding(crate::specs::Tables::row_alone, crate::specs::Strings::string_at))]
     fn row_alone(&self, i: usize, seen: bool) -> bool
         requires in_bounds { i < self.now.count }
         requires unseen { seen ≡ false → row_alone self.now.shape self.now.bytes.now i ≡ true }
@@ -93,6 +98,7 @@ impl Table<'_> {
     }
 
     // The hash of the string of row i.
+    #[tactic(auto, using(crate::proofs::TableLaws::string_at_lem))]
     fn hash_of(&self, i: usize) -> usize
         requires { i < self.now.count }
         ensures { (result ≡ string_hash (row_string self.now.shape self.now.bytes.now i)) × (result < 1024) }
@@ -102,9 +108,10 @@ impl Table<'_> {
 
     // No two rows hold the same string, where zeros stand after each. The hash of each row is marked, and only a row whose
     // hash was marked before is compared with the rows before it.
+    #[tactic(auto, using(crate::proofs::TableLaws::unseen_alone), unfolding(rows::specs::Words::all))]
     pub fn rows_alone(&self) -> bool
         requires { (i : ℕ) → i < self.now.count → row_free self.now.shape self.now.bytes.now i ≡ false → normal (row_string self.now.shape self.now.bytes.now i) ≡ row_string self.now.shape self.now.bytes.now i }
-        ensures { Gives (all (row_alone self.now.shape self.now.bytes.now) self.now.count) result }
+        ensures { result ≡ all (row_alone self.now.shape self.now.bytes.now) self.now.count }
     {
         let mut map = [0u32; 32];
         for i in 0..self.count {
