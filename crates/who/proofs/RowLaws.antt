@@ -1,8 +1,8 @@
 -- The laws of a row of records: its roll, its rules as facts, who is logged in by the word, and the row that stands in bytes.
-use Prim.Native.Nat.{ℕ, zero, suc, ◌+◌, ◌*◌, ◌/◌, ◌%◌, ◌^◌, ◌≤◌, ◌<◌}
+use Prim.Native.Nat.{ℕ, zero, suc, ◌+◌, ◌-◌, ◌*◌, ◌/◌, ◌%◌, ◌^◌, ◌≤◌, ◌<◌}
 use native.Mathlib.Nat.{pow-suc, not-suc-le-zero, le_of_suc-le-suc}
 use native.Mathlib.Omega.{arith}
-use mathlib.Core.Path.{◌≡◌, refl, ap, ◌∙◌}
+use mathlib.Core.Path.{◌≡◌, refl, sym, ap, ◌∙◌}
 use mathlib.Core.Bool.{Bool, true, false, cond, ◌&&◌, and-true}
 use mathlib.Core.List.{List, [], ◌∷◌}
 use lib.Dec.{eqb, ltb, lit<}
@@ -10,19 +10,19 @@ use lib.ListN.{length, drop, get_or, length-drop, drop_of_length-le, get_or-eq_d
 use lib.Pow.{pow_mono}
 use lib.Seq.{drop-cons, drop-length}
 use borrow.Author.Tests.{eqb-true, eq-eqb, ne_eqb, ltb-true, ltb-false}
-use Rattle.rows.proofs.BoolLaws.{by_test, and_left, and_right, and_both, iff}
+use Rattle.rows.proofs.BoolLaws.{by_test, both, and_left, and_right, and_both, iff}
 use Rattle.rows.proofs.IndexLaws.{all_at, all_from}
 use Rattle.rows.proofs.BuildLaws.{length_build, get_D_build}
 use Rattle.rows.proofs.NumberLaws.{halved}
+use Rattle.std.specs.Prelude.{Some, None}
 use Rattle.who.specs.declared.Station.{Station}
-use Rattle.who.specs.declared.Roll.{Roll}
 use Rattle.rows.specs.Words.{all}
 use Rattle.rows.specs.Rows.{row}
 use Rattle.rows.specs.Numbers.{bit_at}
 use Rattle.who.specs.Records.{flag, station_of, flagged}
 use Rattle.who.specs.Good.{good_station, numbers, good_from, good_row, is_row, stations_of}
 use Rattle.who.specs.Row.{absent, station_in, is_in}
-use Rattle.who.specs.Inner.{word_of, roll_of, noted}
+use Rattle.who.specs.Inner.{word_of, roll_of}
 use Rattle.who.proofs.RecordLaws.{flag_small}
 
 -- the word of a row fits as many bits as it has records
@@ -30,47 +30,6 @@ pub word_fits : (xs : List Station) → word_of xs < 2 ^ length xs
 unfolding word_of
 word_fits [] = lit< tt
 word_fits (s ∷ xs) = omega (arith, word_fits xs, flag_small s.logged, pow-suc 2 (length xs))
-
--- the roll of a row, called from the last record down to number i
-module _ (xs : List Station) where
-  abbrev good_on : ℕ → Bool
-  good_on i = eqb (length xs) numbers && good_from i (drop i xs)
-
-  unfoldable pub roll_from : ℕ → Roll
-  roll_from i = record { good = good_on i; word = cond (good_on i) (word_of (drop i xs)) 0 }
-
-  pub roll_starts : ◌≡◌ {A = Roll} (record { good = eqb (length xs) numbers; word = 0 }) (roll_from (length xs))
-  unfolding roll_from good_from word_of
-  roll_starts = rw (drop-length xs, and-true (eqb (length xs) numbers)) (by_test (eqb (length xs) numbers) (λ y. rw y) (λ m. rw m))
-
-  pub roll_ends : roll_from 0 ≡ roll_of xs
-  unfolding roll_from roll_of good_row
-  roll_ends = refl
-
-  pub roll_more : (i : ℕ) → i < length xs → noted i (station_in xs i) (roll_from (suc i)) ≡ roll_from i
-  unfolding roll_from noted station_in
-  roll_more i l = rw (drop-cons xs i absent l) (unfold good_from word_of in one (eqb (length xs) numbers) (good_from (suc i) (drop (suc i) xs)) (good_station i (get_or xs i absent)) (word_of (drop (suc i) xs)))
-    where
-      one : (a b c : Bool) (w : ℕ) → ◌≡◌ {A = Roll} (cond ((a && b) && c) (record { good = true; word = flag (get_or xs i absent).logged + 2 * cond (a && b) w 0 }) (record { good = false; word = 0 }))
-          (record { good = a && (c && b); word = cond (a && (c && b)) (flag (get_or xs i absent).logged + 2 * w) 0 })
-      one true true true w = refl
-      one true true false w = refl
-      one true false true w = refl
-      one true false false w = refl
-      one false true true w = refl
-      one false true false w = refl
-      one false false true w = refl
-      one false false false w = refl
-
-  -- behind bit i it fits the bits that are left
-  pub roll_fits : (i j : ℕ) → numbers ≤ i + j → (roll_from i).word < 2 ^ j
-  unfolding roll_from
-  roll_fits i j h = by_test (good_on i)
-      (λ y.
-      let long : length xs ≡ numbers = eqb-true _ _ (and_left (eqb (length xs) numbers) _ y) in
-      let short : length (drop i xs) ≤ j = simp length-drop (omega arith) in
-      rw y (omega (arith, word_fits (drop i xs), pow_mono short)))
-      (λ m. let one : 2 ^ 0 ≤ 2 ^ j = pow_mono {i = 0} {j = j} (omega arith) in rw m (omega arith))
 
 -- each record of a good row keeps the rules of its number
 from_at : (k : ℕ) (xs : List Station) (i j : ℕ) → k + i ≡ j → good_from k xs ≡ true → i < length xs → good_station j (get_or xs i absent) ≡ true
@@ -131,14 +90,35 @@ word_in xs n = by_test (ltb n (length xs))
     rw (word_rest xs n, drop_of_length-le xs {i = n} out, none))
 
 -- the word from number i on, of the one from the next on
-pub word_more : (xs : List Station) (i : ℕ) → i < length xs → word_of (drop i xs) ≡ flag (station_in xs i).logged + 2 * word_of (drop (suc i) xs)
+word_more : (xs : List Station) (i : ℕ) → i < length xs → word_of (drop i xs) ≡ flag (station_in xs i).logged + 2 * word_of (drop (suc i) xs)
 unfolding word_of station_in
 word_more xs i l = rw (drop-cons xs i absent l)
 
-pub word_room : (xs : List Station) (n : ℕ) → length xs ≡ numbers → 1 ≤ n → word_of (drop n xs) < 9223372036854775808
-word_room xs n long some =
-    let short : length (drop n xs) ≤ 63 = simp length-drop (omega arith) in
-    omega (arith, word_fits (drop n xs), pow_mono short)
+-- the word of a row, called from the last record down: `word` is that of the records from number n on
+module _ (xs : List Station) (long : length xs ≡ numbers) where
+  pub word_starts : 0 ≡ word_of (drop numbers xs)
+  unfolding word_of
+  word_starts = sym (ap word_of (drop_of_length-le xs {i = numbers} (omega (arith, long))))
+
+  module _ {n word : ℕ} (some : 0 < n) (few : n ≤ numbers) (called : word ≡ word_of (drop n xs)) where
+    pub word_on : (bit : ℕ) → bit ≡ flag (station_in xs (n - 1)).logged → bit + 2 * word ≡ word_of (drop (n - 1) xs)
+    word_on bit e =
+        let next : suc (n - 1) ≡ n = omega arith in
+        omega (arith, e, called, word_more xs (n - 1) (omega (arith, long)), ap (λ (k : ℕ). word_of (drop k xs)) next)
+
+    pub word_room : word < 9223372036854775808
+    word_room =
+        let short : length (drop n xs) ≤ 63 = simp length-drop (omega arith) in
+        omega (arith, called, word_fits (drop n xs), pow_mono short)
+
+-- a row with a record that breaks the rules has no word
+pub roll_none : (xs : List Station) (n : ℕ) → n < numbers → good_station n (station_in xs n) ≡ false → None ≡ roll_of xs
+unfolding roll_of
+roll_none xs n l bad = by_test (good_row xs) (λ y. both ((good_is xs y).each n l) bad) (λ m. rw m)
+
+pub roll_some : (xs : List Station) → Good xs → Some (word_of xs) ≡ roll_of xs
+unfolding roll_of
+roll_some xs g = rw (is_good xs g)
 
 -- the row that stands in bytes
 module _ (w : List ℕ) where

@@ -1,5 +1,5 @@
 -- The laws of the 64 records: their rules as facts, who is logged in, what a login and a logout change and what they leave, the lowest free number, and the fresh records.
-use Prim.Native.Nat.{ℕ, ◌*◌, ◌/◌, ◌≤◌, ◌<◌}
+use Prim.Native.Nat.{ℕ, ◌+◌, ◌*◌, ◌/◌, ◌≤◌, ◌<◌}
 use native.Mathlib.Nat.{add-zero}
 use native.Mathlib.Omega.{arith}
 use mathlib.Core.Path.{◌≡◌, refl, sym, ap, ◌∙◌}
@@ -22,6 +22,11 @@ use Rattle.who.specs.Inner.{word_of}
 use Rattle.who.specs.Logins.{record_count, logged_in, free_number, lowest_number, after_login, after_logout, fresh_records}
 use Rattle.who.proofs.RecordLaws.{Sound, nobody_sound, local_sound, flag_back, logged_bytes_of, length_bytes_of, bytes_of_sound}
 use Rattle.who.proofs.RowLaws.{in_past, word_in, length_stations, station_read, rules_at, row_each, row_is, is_row_lem}
+
+-- the record of a number that is logged in stands in the bytes
+pub logged_inside : (w : List ℕ) (n : ℕ) → logged_in w n ≡ true → 18 * n + 18 ≤ length w
+unfolding logged_in
+logged_inside w n y = let below : n < record_count w = ltb-true _ _ (and_left (ltb n (record_count w)) (eqb (get_or w (18 * n) 0) 1) y) in omega arith
 
 -- records that keep the rules
 pub record Good (w : List ℕ) : Type 0 where

@@ -2,7 +2,7 @@
 use Rattle.std.specs.Prelude.{ℕ, ◌+◌, ◌*◌, cond, List, [], ◌∷◌, Option, Some, None}
 use Rattle.who.specs.declared.Station.{Station}
 use Rattle.who.specs.Records.{flag}
-use Rattle.who.specs.Good.{good_station, good_row}
+use Rattle.who.specs.Good.{good_row}
 
 -- who is logged in as a word, bit n for number n
 unfoldable pub word_of : List Station → ℕ
@@ -12,7 +12,3 @@ word_of (s ∷ xs) = flag s.logged + 2 * word_of xs
 -- a row that breaks the rules has no word
 unfoldable pub roll_of : List Station → Option ℕ
 roll_of xs = cond (good_row xs) (Some (word_of xs)) None
-
--- the word with record n, which has to keep the rules, below those that it has
-unfoldable pub noted : ℕ → Station → ℕ → Option ℕ
-noted n s word = cond (good_station n s) (Some (flag s.logged + 2 * word)) None

@@ -6,7 +6,7 @@ ghost use Rattle.rows.specs.Rows.{row};
 ghost use Rattle.who.specs.Records.{flag, station_of, flagged};
 ghost use Rattle.who.specs.Good.{numbers, is_row, stations_of};
 ghost use Rattle.who.specs.Row.{vacant as vacant_of};
-ghost use Rattle.who.specs.Inner.{word_of, roll_of, noted};
+ghost use Rattle.who.specs.Inner.{word_of, roll_of};
 
 use crate::{NUMBERS, RECORD, Station};
 
@@ -25,19 +25,9 @@ pub fn vacant() -> Station
     }
 }
 
-// The word with record n, which has to keep the rules, below those that it has.
-fn note(n: usize, s: Station, word: u64) -> Option<u64>
-    requires { word < 9223372036854775808 }
-    ensures { result ≡ noted n s word }
-{
-    if !crate::station_good(n, s) {
-        return None;
-    }
-    Some(u64::from(s.logged) + 2 * word)
-}
-
 // Who of the lent row is logged in, as a word with bit n for number n; a row that breaks the rules has none. The last record
-// is noted first, so that number n ends up as bit n.
+// comes first, so that number n ends up as bit n.
+#[tactic(auto, unfolding(crate::specs::Inner::roll_of, crate::specs::Good::good_row))]
 pub fn roll_call(row: &[Station]) -> Option<u64>
     ensures { Gives (roll_of row.now) result }
 {
@@ -46,12 +36,16 @@ pub fn roll_call(row: &[Station]) -> Option<u64>
     }
     let mut word = 0;
     for n in (0..NUMBERS).rev() {
-        word = note(n, row[n], word)?;
+        if !crate::station_good(n, row[n]) {
+            return None;
+        }
+        word = u64::from(row[n].logged) + 2 * word;
     }
     Some(word)
 }
 
 // 1 where number n is logged in.
+#[tactic(auto, using(rows::proofs::RowLaws::head_part), unfolding(crate::specs::Records::flag, crate::specs::Records::station_of))]
 fn bit_of(records: &[u8], n: usize) -> u64
     requires { (length records.now ≡ 18 * numbers) × (n < numbers) }
     ensures { result ≡ flag (station_of (row 18 records.now n)).logged }
@@ -72,6 +66,7 @@ pub fn word_of(records: &[u8]) -> u64
 }
 
 // The flags of record n are 0 or 1.
+#[tactic(auto, using(rows::proofs::RowLaws::head_part, rows::proofs::RowLaws::get_d_part), unfolding(crate::specs::Records::flagged))]
 fn is_flagged(records: &[u8], n: usize) -> bool
     requires { (length records.now ≡ 18 * numbers) × (n < numbers) }
     ensures { result ≡ flagged (row 18 records.now n) }

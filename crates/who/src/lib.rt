@@ -37,6 +37,7 @@ pub struct Station {
 }
 
 // The record of a station.
+#[tactic(auto, unfolding(crate::specs::Records::bytes_of, crate::specs::Records::flag, rows::specs::Numbers::low_bytes))]
 fn bytes_of(s: Station) -> [u8; 18]
     ensures { result ≡ bytes_of s }
 {
@@ -52,6 +53,7 @@ fn bytes_of(s: Station) -> [u8; 18]
 }
 
 // The station of record n.
+#[tactic(auto, using(rows::proofs::RowLaws::head_part, rows::proofs::RowLaws::get_d_part, rows::proofs::RowLaws::part_part), unfolding(crate::specs::Records::station_of))]
 pub fn station_at(records: &[u8], n: usize) -> Station
     requires { 18 * n + 18 ≤ length records.now }
     ensures { result ≡ station_of (row 18 records.now n) }
@@ -77,6 +79,7 @@ pub fn put_station(records: &mut [u8], n: usize, s: Station)
 }
 
 // Clears record n.
+#[tactic(auto, unfolding(crate::specs::Logins::after_logout))]
 pub fn log_out(records: &mut [u8], n: usize)
     requires { 18 * n + 18 ≤ length records.old }
     ensures { records.new ≡ after_logout records.old n }
@@ -85,6 +88,7 @@ pub fn log_out(records: &mut [u8], n: usize)
 }
 
 // Number n is logged in.
+#[tactic(auto, unfolding(crate::specs::Logins::logged_in))]
 pub fn is_in(records: &[u8], n: usize) -> bool
     ensures { Gives (logged_in records.now n) result }
 {
@@ -92,6 +96,7 @@ pub fn is_in(records: &[u8], n: usize) -> bool
 }
 
 // A login may give number n.
+#[tactic(auto, unfolding(crate::specs::Logins::free_number))]
 fn is_free(records: &[u8], n: usize) -> bool
     ensures { result ≡ free_number records.now n }
 {
@@ -99,6 +104,7 @@ fn is_free(records: &[u8], n: usize) -> bool
 }
 
 // The lowest free number from 1 on.
+#[tactic(auto, using(rows::proofs::IndexLaws::search_on, rows::proofs::IndexLaws::search_hit, rows::proofs::IndexLaws::search_ends), unfolding(rows::specs::Words::any, crate::specs::Logins::lowest_number))]
 pub fn lowest_number(records: &[u8]) -> Option<usize>
     ensures { Finds (record_count records.now) (lowest_number records.now) result }
 {
@@ -111,14 +117,18 @@ pub fn lowest_number(records: &[u8]) -> Option<usize>
 }
 
 // Number n, from 1 on, is logged in with this serial.
-#[tactic(auto, unfolding(crate::specs::Logins::has_serial))]
+#[tactic(auto, using(crate::proofs::WhoLaws::logged_inside, rows::proofs::RowLaws::part_part), unfolding(crate::specs::Logins::has_serial, crate::specs::Records::station_of))]
 pub fn has_serial(records: &[u8], n: usize, serial: [u8; 4]) -> bool
     ensures { Gives (has_serial records.now serial n) result }
 {
-    1 <= n && is_in(records, n) && rows::is_same(rows::part(records, RECORD * n + 12, 4), &serial)
+    if n < 1 || !is_in(records, n) {
+        return false;
+    }
+    rows::is_same(rows::part(records, RECORD * n + 12, 4), &serial)
 }
 
 // Misses and slow turns are in range.
+#[tactic(auto, unfolding(crate::specs::Good::good_counts))]
 fn counts_good(misses: u16, slow: u8) -> bool
     ensures { result ≡ good_counts misses slow }
 {
@@ -126,6 +136,7 @@ fn counts_good(misses: u16, slow: u8) -> bool
 }
 
 // All but `logged in` is zero or no.
+#[tactic(auto, unfolding(crate::specs::Good::plain))]
 fn is_plain(s: Station) -> bool
     ensures { result ≡ plain s }
 {

@@ -1,10 +1,6 @@
 use Rattle.who.specs.Logins.{record_count, free_number}
 use Rattle.rows.proofs.IndexLaws.{Searching}
-use Prim.Native.Nat.{◌-◌}
 use Rattle.who.proofs.lowest_number.Given as goal
 
 abbrev pub invariant-loop-n : goal.invariant-loop-n
 invariant-loop-n l = Searching (free_number l.records) (record_count l.records) l.n
-
-abbrev pub decreases-loop-n : goal.decreases-loop-n
-decreases-loop-n l = record_count l.records - l.n

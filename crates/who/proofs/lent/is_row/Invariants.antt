@@ -2,11 +2,7 @@ use Rattle.who.specs.Records.{flagged}
 use Rattle.rows.specs.Rows.{row}
 use Rattle.who.specs.Good.{numbers}
 use Rattle.rows.proofs.IndexLaws.{Passing}
-use Prim.Native.Nat.{◌-◌}
 use Rattle.who.proofs.lent.is_row.Given as goal
 
 abbrev pub invariant-loop-n : goal.invariant-loop-n
 invariant-loop-n l = Passing (λ k. flagged (row 18 l.records k)) numbers l.n
-
-abbrev pub decreases-loop-n : goal.decreases-loop-n
-decreases-loop-n l = numbers - l.n
