@@ -14,6 +14,7 @@ pub const ROW: usize = 24;
 pub const NAME: usize = 8;
 
 // How many rows there are.
+#[tactic(auto, unfolding(crate::specs::Directory::files))]
 pub fn count(directory: &[u8]) -> usize
     ensures { result ≡ files directory.now }
 {
@@ -21,6 +22,7 @@ pub fn count(directory: &[u8]) -> usize
 }
 
 // The first file with this name. A null name is not looked for.
+#[tactic(auto, using(crate::proofs::FileLaws::null_missing, crate::proofs::FileLaws::named_begins), unfolding(crate::specs::Directory::files, crate::specs::Directory::null_name))]
 pub fn find(directory: &[u8], name: &[u8]) -> Option<usize>
     requires { length name.now ≡ 8 }
     ensures { Finds (files directory.now) (file_of directory.now name.now) result }
@@ -32,6 +34,7 @@ pub fn find(directory: &[u8], name: &[u8]) -> Option<usize>
 }
 
 // There is a file with this name.
+#[tactic(auto, using(crate::proofs::FileLaws::there_found))]
 pub fn is_there(directory: &[u8], name: &[u8]) -> bool
     requires { length name.now ≡ 8 }
     ensures { result ≡ in_directory directory.now name.now }
@@ -40,6 +43,7 @@ pub fn is_there(directory: &[u8], name: &[u8]) -> bool
 }
 
 // The length of file i, in sectors.
+#[tactic(auto, unfolding(crate::specs::Directory::files, crate::specs::Directory::file_length))]
 pub fn length_of(directory: &[u8], i: usize) -> u16
     requires { i < files directory.now }
     ensures { result ≡ file_length directory.now i }
@@ -48,6 +52,7 @@ pub fn length_of(directory: &[u8], i: usize) -> u16
 }
 
 // The row of file i without its name.
+#[tactic(auto, unfolding(crate::specs::Directory::files, crate::specs::Directory::file_entry))]
 pub fn entry_of(directory: &[u8], i: usize) -> &[u8]
     requires { i < files directory.now }
     ensures { result.now ≡ file_entry directory.now i }

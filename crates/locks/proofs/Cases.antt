@@ -1,9 +1,11 @@
 -- The cases of lock and unlock, one law each: what the tests say, and what is answered and left.
-use Prim.Native.Nat.{ℕ}
+use Prim.Native.Nat.{ℕ, ◌<◌}
+use native.Mathlib.Omega.{arith}
 use mathlib.Core.Path.{◌≡◌}
 use mathlib.Core.Bool.{true, false}
 use mathlib.Core.List.{List}
 use borrow.Author.Tests.{eq-eqb, ne_eqb}
+use Rattle.rows.proofs.IndexLaws.{found_if, missing_if}
 use Rattle.rows.specs.Words.{any}
 use Rattle.rows.specs.Rows.{set_row}
 use Rattle.rows.specs.Outcomes.{Leaves}
@@ -11,6 +13,16 @@ use Rattle.terms.specs.declared.LockString.{LockString}
 use Rattle.terms.specs.Strings.{legal}
 use Rattle.locks.specs.Row.{free_row, row_of}
 use Rattle.locks.specs.Table.{row_count, free_at, owner_at, held_at, lowest_free, is_held, is_own, lock_status, lock_table, unlocks, unlock_status, unlock_table}
+
+-- what the search for a string finds
+module _ (t : List ℕ) (s : LockString) where
+  pub found_held : {at : ℕ} → (at ≡ held_at t s) × (at < row_count t) → is_held t s ≡ true
+  unfolding held_at is_held
+  found_held f = found_if _ _ (rw f.0 at f.1)
+
+  pub missing_held : row_count t ≡ held_at t s → is_held t s ≡ false
+  unfolding held_at is_held
+  missing_held m = missing_if _ _ (omega (arith, m))
 
 module _ (t : List ℕ) (who : ℕ) (s : LockString) where
   abbrev pub Locks : ℕ → List ℕ → Type 0

@@ -24,6 +24,7 @@ pub const BYTES: usize = 1024;
 const FREE_ROW: [u8; 16] = [0xFF, 0, 0, 0, 0, 0, 0, 0, 0, 0, 0, 0, 0, 0, 0, 0];
 
 // The lowest free row.
+#[tactic(auto, using(rows::proofs::IndexLaws::search_on, rows::proofs::IndexLaws::search_hit, rows::proofs::IndexLaws::search_ends), unfolding(rows::specs::Words::any, crate::specs::Table::lowest_free))]
 fn lowest_free(table: &[u8]) -> Option<usize>
     ensures { Finds (row_count table.now) (lowest_free_of table.now) result }
 {
@@ -92,10 +93,14 @@ pub fn free_all(table: &mut [u8], who: u8)
 }
 
 // The lock table keeps the rules, where the word says who is logged in, by bit n for number n.
+#[tactic(auto, unfolding(crate::specs::Good::good_locks, crate::specs::Good::sound_rows))]
 pub fn is_good(table: &[u8], word: u64) -> bool
     ensures { Gives (good_locks (bit_at word) table.now) result }
 {
-    table.len() == BYTES && rules::rows_good(table, LOCKS, word) && row::strings(table).rows_alone()
+    if table.len() != BYTES || !rules::rows_good(table, LOCKS, word) {
+        return false;
+    }
+    row::strings(table).rows_alone()
 }
 
 // Leaves 64 free rows.

@@ -10,6 +10,7 @@ use terms::LockString;
 use terms::table::{Shape, Table};
 
 // The owner of row i.
+#[tactic(auto, using(rows::proofs::RowLaws::head_part), unfolding(crate::specs::Table::owner_at, crate::specs::Row::owner))]
 pub fn owner_of(table: &[u8], i: usize) -> u8
     requires { 16 * i + 16 ≤ length table.now }
     ensures { result ≡ owner_at table.now i }
@@ -18,6 +19,7 @@ pub fn owner_of(table: &[u8], i: usize) -> u8
 }
 
 // Row i is free.
+#[tactic(auto, unfolding(crate::specs::Table::owner_at, crate::specs::Row::owner, terms::specs::Tables::row_free, terms::specs::Tables::row_in, terms::specs::Tables::is_free))]
 pub fn is_free(table: &[u8], i: usize) -> bool
     requires { 16 * i + 16 ≤ length table.now }
     ensures { result ≡ free_at table.now i }
@@ -43,6 +45,7 @@ pub fn strings(table: &[u8]) -> Table<'_>
 }
 
 // The row that holds s.
+#[tactic(auto, unfolding(crate::specs::Table::held_at))]
 pub fn find_string(table: &[u8], s: LockString) -> Option<usize>
     ensures { Finds (row_count table.now) (held_at table.now s) result }
 {

@@ -8,6 +8,7 @@ use crate::ROW;
 
 // A row by itself: free with zeros, or used by somebody who is logged in, with a legal length and zeros after the string. The
 // word says who is logged in, by bit n for number n.
+#[tactic(auto, unfolding(crate::specs::Good::sound_row, crate::specs::Row::owner, terms::specs::Tables::is_free, terms::specs::Tables::string_in, terms::specs::Strings::string_at, terms::specs::Strings::legal))]
 fn row_good(r: &[u8], word: u64) -> bool
     requires { length r.now ≡ 16 }
     ensures { result ≡ sound_row (bit_at word) r.now }

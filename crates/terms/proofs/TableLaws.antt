@@ -1,5 +1,6 @@
 -- The laws of lock strings in the rows of a table.
 use Prim.Native.Nat.{ℕ, ◌+◌, ◌*◌, ◌≤◌, ◌<◌}
+use native.Mathlib.Bridge.{le_prop}
 use native.Mathlib.Nat.{lt_trans}
 use native.Mathlib.Omega.{arith}
 use mathlib.Core.Path.{◌≡◌, refl, sym, ap, ◌∙◌}
@@ -24,6 +25,10 @@ use Rattle.terms.specs.declared.LockString.{LockString}
 use Rattle.terms.specs.Strings.{string_at, key, same_string, normal}
 use Rattle.terms.specs.Tables.{is_free, string_in, holds, row_in, row_free, row_string, row_holds, row_alone}
 use Rattle.terms.specs.Shortcuts.{string_hash, row_has_key}
+
+-- two shapes with the same fields are the same
+pub one_shape : (width string free : ℕ) (p q : string + 14 ≤ width) → ◌≡◌ {A = Shape} (record { width = width; string = string; free = free; room = p }) (record { width = width; string = string; free = free; room = q })
+one_shape width string free p q = λ i. record { width = width; string = string; free = free; room = le_prop p q i }
 
 -- the first byte and the string of row i, where they stand in the table
 module _ (shape : Shape) (t : List ℕ) (i : ℕ) where

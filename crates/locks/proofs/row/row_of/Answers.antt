@@ -1,7 +1,6 @@
 use Rattle.locks.proofs.LockRowLaws.{row_laid}
 use Rattle.locks.specs.Row.{row_of}
-use Rattle.rows.proofs.RowLaws.{over_first, over_next}
-use Rattle.rows.specs.Rows.{over}
+use Rattle.rows.proofs.RowLaws.{over_next}
 use Rattle.terms.specs.declared.LockString.{LockString}
 use Rattle.terms.specs.Strings.{string_bytes}
 use lib.ListN.{length, replicate}
@@ -17,6 +16,7 @@ returns c =
     let a = c.args in
     let x = c.normal.result in
     let full : length c.normal.result.bytes ≡ 13 = search rules in
-    let head : c.put.new.s ≡ over (a.who ∷ []) (replicate 16 0) = c.put.ensures ∙ over_first (replicate 16 0) (a.who ∷ []) in
-    c.put_string.ensures.0 ∙ rw head (over_next (replicate 16 0) (a.who ∷ []) (string_bytes x) 1 refl (omega arith)) ∙ row_laid a.who x full
+    c.put_string.ensures.0
+    ∙ over_next (replicate 16 0) (a.who ∷ []) (string_bytes x) 1 refl (omega arith)
+    ∙ row_laid a.who x full
     ∙ ap (λ (y : LockString). a.who ∷ (string_bytes y ++ (0 ∷ []))) c.normal.ensures.answer
