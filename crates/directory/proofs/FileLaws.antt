@@ -1,17 +1,14 @@
 -- The laws of specs/Directory.antt: a file by its name.
 use Prim.Native.Nat.{ℕ, ◌+◌, ◌*◌, ◌<◌}
 use native.Mathlib.Omega.{arith}
-use mathlib.Core.Path.{◌≡◌, sym}
+use mathlib.Core.Path.{◌≡◌}
 use mathlib.Core.Bool.{true, false}
 use mathlib.Core.List.{List}
-use Rattle.std.specs.Option.{is_some}
-use Rattle.std.specs.Prelude.{Option, Some, None}
 use lib.Dec.{ltb}
 use lib.ListN.{length}
-use Rattle.rows.specs.Outcomes.{Finds}
 use Rattle.rows.specs.Words.{first, same}
 use Rattle.rows.specs.Rows.{begins}
-use Rattle.rows.proofs.IndexLaws.{none_from, first_none, first_below, first_found, first_same, found_if, missing_if}
+use Rattle.rows.proofs.IndexLaws.{none_from, first_none, first_below, first_found, first_same}
 use Rattle.rows.proofs.RowLaws.{length_part}
 use Rattle.directory.specs.Directory.{files, file_entry, null_name, file_named, file_of, in_directory}
 
@@ -33,12 +30,6 @@ module _ (t name : List ℕ) where
   pub there_at : in_directory t name ≡ true → file_of t name < files t
   unfolding file_of in_directory
   there_at there = (first_found (file_named t name) (files t) there).0
-
--- a search for it found something just where it is there
-pub there_found : (t name : List ℕ) (r : Option ℕ) → Finds (files t) (file_of t name) r → is_some r ≡ in_directory t name
-unfolding file_of in_directory
-there_found t name (Some k) h = sym (found_if _ (files t) (omega (arith, h.0, h.1)))
-there_found t name None h = sym (missing_if _ (files t) (omega (arith, h)))
 
 -- a file's row lies in the directory, so its entry has 16 bytes
 pub length_entry : (t : List ℕ) (i : ℕ) → i < files t → length (file_entry t i) ≡ 16

@@ -34,7 +34,7 @@ pub fn find(directory: &[u8], name: &[u8]) -> Option<usize>
 }
 
 // There is a file with this name.
-#[tactic(auto, using(crate::proofs::FileLaws::there_found))]
+#[tactic(auto, using(rows::proofs::OutcomeLaws::finds_some), unfolding(crate::specs::Directory::file_of, crate::specs::Directory::in_directory))]
 pub fn is_there(directory: &[u8], name: &[u8]) -> bool
     requires { length name.now ≡ 8 }
     ensures { result ≡ in_directory directory.now name.now }

@@ -6,19 +6,16 @@ use native.Mathlib.Omega.{arith}
 use mathlib.Core.Path.{◌≡◌, refl, sym, ap, ◌∙◌}
 use mathlib.Core.Bool.{Bool, true, false, not, ◌&&◌}
 use mathlib.Core.List.{List}
-use Rattle.std.specs.Option.{is_some}
-use Rattle.std.specs.Prelude.{Option, Some, None}
 use lib.Dec.{eqb, ltb}
 use lib.ListN.{get_or}
 use borrow.Author.Tests.{ltb-true, ltb-false, not-true}
 use Rattle.rows.proofs.BoolLaws.{by_test, by_eq, both, refuted, and_left, and_right}
-use Rattle.rows.proofs.IndexLaws.{all_at, all_from, none_at, none_from, found_if, missing_if}
+use Rattle.rows.proofs.IndexLaws.{all_at, all_from, none_at, none_from}
 use Rattle.rows.proofs.MarkLaws.{Marked, unmarked_new}
 use Rattle.rows.proofs.RowLaws.{head_part}
 use Rattle.rows.specs.Marks.{marked}
 use Rattle.rows.specs.Rows.{row}
-use Rattle.rows.specs.Outcomes.{Finds}
-use Rattle.rows.specs.Words.{all, any, first}
+use Rattle.rows.specs.Words.{all, any}
 use Rattle.terms.proofs.StringLaws.{string_inside, same_normal, same_string_refl, same_string_right, same_string_sym, same_string_trans}
 use Rattle.terms.specs.declared.table.Shape.{Shape}
 use Rattle.terms.specs.declared.LockString.{LockString}
@@ -44,11 +41,6 @@ module _ (shape : Shape) (t : List ℕ) (i : ℕ) where
 pub key_held : (shape : Shape) (t : List ℕ) (s : LockString) → row_has_key shape t s.len (key s) ≡ row_holds shape t s
 unfolding row_has_key row_in row_free row_string row_holds holds same_string
 key_held shape t s = refl
-
--- a search for the key of row i among the rows before it finds none just where none of them holds its string
-pub none_before : (shape : Shape) (t : List ℕ) (i : ℕ) (r : Option ℕ) → Finds i (first (row_holds shape t (row_string shape t i)) i) r → not (is_some r) ≡ not (any (row_holds shape t (row_string shape t i)) i)
-none_before shape t i (Some k) h = ap not (sym (found_if _ i (omega (arith, h.0, h.1))))
-none_before shape t i None h = ap not (sym (missing_if _ i (omega (arith, h))))
 
 -- a row that holds a string
 pub record Holds (shape : Shape) (x : LockString) (r : List ℕ) : Type 0 where

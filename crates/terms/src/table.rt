@@ -83,7 +83,7 @@ impl Table<'_> {
     }
 
     // Row i is free, or no earlier row holds its string: where its hash was not seen in an earlier row, none does.
-    #[tactic(auto, using(crate::proofs::TableLaws::string_at_lem, crate::proofs::TableLaws::key_held, crate::proofs::TableLaws::none_before), unfolding(crate::specs::Tables::row_alone, crate::specs::Strings::string_at))]
+    #[tactic(auto, using(crate::proofs::TableLaws::string_at_lem, crate::proofs::TableLaws::key_held, rows::proofs::OutcomeLaws::finds_some), unfolding(crate::specs::Tables::row_alone, crate::specs::Strings::string_at))]
     fn row_alone(&self, i: usize, seen: bool) -> bool
         requires in_bounds { i < self.now.count }
         requires unseen { seen ≡ false → row_alone self.now.shape self.now.bytes.now i ≡ true }
