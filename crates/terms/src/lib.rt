@@ -14,20 +14,20 @@ ghost use Rattle.terms.specs.Shortcuts.{string_hash};
 
 use rows::LowFirst;
 
-#[derive(Clone, Copy)]
+#[derive(Clone, Copy, Debug, PartialEq, Eq)]
 pub struct Volume(pub u8);
 
-#[derive(Clone, Copy)]
+#[derive(Clone, Copy, Debug, PartialEq, Eq)]
 pub struct Partition(pub u8);
 
-#[derive(Clone, Copy)]
+#[derive(Clone, Copy, Debug, PartialEq, Eq)]
 pub struct Track(pub u16);
 
-#[derive(Clone, Copy)]
+#[derive(Clone, Copy, Debug, PartialEq, Eq)]
 pub struct Sector(pub u8);
 
 // Where a station asks to read or write.
-#[derive(Clone, Copy)]
+#[derive(Clone, Copy, Debug, PartialEq, Eq)]
 pub struct Address {
     pub volume: Volume,
     pub partition: Partition,
@@ -36,13 +36,14 @@ pub struct Address {
 }
 
 // Where that is on the drive: a sector of the volume, counted from 0.
-#[derive(Clone, Copy)]
+#[derive(Clone, Copy, Debug, PartialEq, Eq)]
 pub struct Place {
     pub volume: Volume,
     pub sector: u32,
 }
 
-#[derive(Clone, Copy)]
+// A string by itself. It has no `==`, since bytes after its length do not count.
+#[derive(Clone, Copy, Debug)]
 pub struct LockString {
     pub len: u8,
     pub bytes: [u8; 13],
