@@ -1,4 +1,5 @@
 -- The first fault of a site file, case by case, as the check finds it.
+use Rattle.std.specs.Prelude.{Result, Ok, Err, is_ok}
 use Prim.Native.Nat.{ℕ, ◌<◌, ◌≤◌}
 use native.Mathlib.Omega.{arith}
 use mathlib.Core.Path.{◌≡◌, refl, sym, ap, ◌∙◌, subst}
@@ -13,7 +14,6 @@ use Rattle.site.specs.declared.Breach.{Breach}
 use Rattle.site.specs.declared.Breach.TheVariants.{Range, Name, Number, Overlap}
 use Rattle.site.specs.declared.Fault.{Fault}
 use Rattle.site.specs.declared.Fault.TheVariants.{InHeader, InUser, InPartition}
-use Rattle.site.specs.declared.Checked.TheVariants.{Good, Faulty}
 use Rattle.site.specs.Layout.{users, partitions, partitions_from, partition_row}
 use Rattle.site.specs.Rules.{good_header, name_alone, good_user, ranged, sound, number_alone, apart, good_partition, good_site}
 use Rattle.site.proofs.RuleLaws.{Headed, header_is, sound_ranged, kept}
@@ -102,16 +102,16 @@ module _ (f : List ℕ) where
 
   -- what the check gives, case by case
   module _ (header : good_header f ≡ false) where
-    pub header_faulty : Faulty InHeader ≡ checked f
+    pub header_faulty : Err InHeader ≡ checked f
     unfolding checked first_fault
     header_faulty = rw (site_by_rows, header)
 
   module _ (header : good_header f ≡ true) where
-    pub user_faulty : (i : ℕ) → i ≡ first_user f → i < users f → Faulty (InUser i) ≡ checked f
+    pub user_faulty : (i : ℕ) → i ≡ first_user f → i < users f → Err (InUser i) ≡ checked f
     unfolding checked first_fault
     user_faulty i e l =
         let found : ltb (first_user f) (users f) ≡ true = lt-ltb (first_user f) (users f) (omega arith) in
-        rw (site_by_rows, header, found) (ap (λ (k : ℕ). Faulty (InUser k)) e)
+        rw (site_by_rows, header, found) (ap (λ (k : ℕ). Err (InUser k)) e)
 
     pub partitions_checked : users f ≤ first_user f → checked_partitions f ≡ checked f
     unfolding checked first_fault checked_partitions
@@ -140,34 +140,34 @@ module _ (f : List ℕ) where
   keeps i = (first_least (fails (sound f)) _ i, first_least (fails names) _ i, first_least (fails (number_alone f)) _ i)
 
   -- so that the breach of the first row that is not good is known
-  faulty_is : (i : ℕ) (b : Breach) → i ≡ first_partition f → i < partitions f → breach_at f i ≡ b → Faulty (InPartition i b) ≡ checked_partitions f
+  faulty_is : (i : ℕ) (b : Breach) → i ≡ first_partition f → i < partitions f → breach_at f i ≡ b → Err (InPartition i b) ≡ checked_partitions f
   unfolding checked_partitions
   faulty_is i b e l is =
       let found : ltb (first_partition f) (partitions f) ≡ true = lt-ltb (first_partition f) (partitions f) (omega (arith, e)) in
-      rw found (ap (λ (k : Breach). Faulty (InPartition i k)) (sym is) ∙ ap (λ (k : ℕ). Faulty (InPartition k (breach_at f k))) e)
+      rw found (ap (λ (k : Breach). Err (InPartition i k)) (sym is) ∙ ap (λ (k : ℕ). Err (InPartition k (breach_at f k))) e)
 
-  pub none_faulty : partitions f ≤ left_by_overlap f → Good ≡ checked_partitions f
+  pub none_faulty : partitions f ≤ left_by_overlap f → Ok tt ≡ checked_partitions f
   unfolding checked_partitions
   none_faulty l = rw (le-ltb (first_partition f) (partitions f) (omega (arith, ends_first)))
 
-  pub overlap_faulty : left_by_overlap f < left_by_number f → Faulty (InPartition (left_by_overlap f) Overlap) ≡ checked_partitions f
+  pub overlap_faulty : left_by_overlap f < left_by_number f → Err (InPartition (left_by_overlap f) Overlap) ≡ checked_partitions f
   unfolding breach_at breaks names
   overlap_faulty l = let o = left_by_overlap f in
       faulty_is o Overlap ends_first (omega (arith, fewer)) (rw ((keeps o).0 (omega (arith, fewer)), (keeps o).1 (omega (arith, fewer)), (keeps o).2 l))
 
   module _ (apart₁ : left_by_number f ≤ left_by_overlap f) where
-    pub number_faulty : left_by_number f < left_by_name f → Faulty (InPartition (left_by_number f) Number) ≡ checked_partitions f
+    pub number_faulty : left_by_number f < left_by_name f → Err (InPartition (left_by_number f) Number) ≡ checked_partitions f
     unfolding breach_at breaks names left_by_number
     number_faulty l = let v = left_by_number f in
         faulty_is v Number (omega (arith, ends_first, fewer)) (omega (arith, fewer)) (rw ((keeps v).0 (omega (arith, fewer)), (keeps v).1 l, stops_at (number_alone f) (left_by_name f) l))
 
     module _ (numbered : left_by_name f ≤ left_by_number f) where
-      pub name_faulty : left_by_name f < left_by_range f → Faulty (InPartition (left_by_name f) Name) ≡ checked_partitions f
+      pub name_faulty : left_by_name f < left_by_range f → Err (InPartition (left_by_name f) Name) ≡ checked_partitions f
       unfolding breach_at breaks names left_by_name
       name_faulty l = let n = left_by_name f in
           faulty_is n Name (omega (arith, ends_first, fewer)) (omega (arith, fewer)) (rw ((keeps n).0 l, stops_at names (left_by_range f) l))
 
-      pub range_faulty : left_by_range f ≤ left_by_name f → left_by_range f < partitions f → Faulty (InPartition (left_by_range f) Range) ≡ checked_partitions f
+      pub range_faulty : left_by_range f ≤ left_by_name f → left_by_range f < partitions f → Err (InPartition (left_by_range f) Range) ≡ checked_partitions f
       unfolding breach_at breaks left_by_range
       range_faulty named l = faulty_is (left_by_range f) Range (omega (arith, ends_first, fewer)) l (rw (stops_at (sound f) (partitions f) l))
 
@@ -188,27 +188,32 @@ module _ (f : List ℕ) where
       (λ h. rw h (header_case h))
 
   -- what the check gave
-  pub checked_is : {x : Fault} → checked f ≡ Faulty x → (good_site f ≡ false) × (first_fault f ≡ x)
+  pub checked_is : {x : Fault} → checked f ≡ Err x → (good_site f ≡ false) × (first_fault f ≡ x)
   unfolding checked
   checked_is {x} e = by_test (good_site f)
       (λ y. absurd (not_faulty (rw y at e)))
       (λ n. (n, named (rw n at e)))
     where
-      not_faulty : Good ≡ Faulty x → ⊥
+      not_faulty : ◌≡◌ {A = Result (Unit {0}) Fault} (Ok tt) (Err x) → ⊥
       not_faulty q = let z : ◌≡◌ {A = ℕ} 0 1 = cc in omega arith
 
-      named : Faulty (first_fault f) ≡ Faulty x → first_fault f ≡ x
+      named : ◌≡◌ {A = Result (Unit {0}) Fault} (Err (first_fault f)) (Err x) → first_fault f ≡ x
       named q = cc
 
-  pub checked_case : {x : Fault} → checked f ≡ Faulty x → FirstCase x
+  pub checked_case : {x : Fault} → checked f ≡ Err x → FirstCase x
   checked_case e = let is = checked_is e in subst FirstCase is.1 (first_case is.0)
 
-  pub checked_good : checked f ≡ Good → good_site f ≡ true
+  pub checked_good : {u : Unit {0}} → checked f ≡ Ok u → good_site f ≡ true
   unfolding checked
-  checked_good e = by_test (good_site f) (λ y. y) (λ n. absurd (not_good (rw n at e)))
+  checked_good {u} e = by_test (good_site f) (λ y. y) (λ n. absurd (not_good (rw n at e)))
     where
-      not_good : Faulty (first_fault f) ≡ Good → ⊥
+      not_good : ◌≡◌ {A = Result (Unit {0}) Fault} (Err (first_fault f)) (Ok u) → ⊥
       not_good q = let z : ◌≡◌ {A = ℕ} 0 1 = cc in omega arith
+
+  -- the test by which code tells whether the file is good
+  pub checked_ok : is_ok (checked f) ≡ good_site f
+  unfolding checked
+  checked_ok = by_test (good_site f) (λ y. rw y) (λ n. rw n)
 
   -- what is known where the first fault is x: the rows up to the one named can be read, and for an overlap they are in range
   abbrev pub Known : Fault → Type 0

@@ -14,7 +14,7 @@ use Rattle.site.specs.declared.Breach.{Breach}
 use Rattle.site.specs.declared.Breach.TheVariants.{Range, Name, Number, Overlap}
 use Rattle.site.specs.declared.Fault.{Fault}
 use Rattle.site.specs.declared.Fault.TheVariants.{InHeader, InUser, InPartition}
-use Rattle.site.specs.declared.Checked.TheVariants.{Faulty}
+use Rattle.std.specs.Prelude.{Err}
 use Rattle.site.specs.Layout.{users, partitions}
 use Rattle.site.specs.Rules.{name_alone, good_user, number_alone, apart, good_partition, good_site}
 use Rattle.site.specs.Faults.{fault_part, fault_row, breach_number, fault_breach, first_user, first_partition, first_fault, checked, breaks, there, before, First, clashes, earlier_row}
@@ -94,7 +94,7 @@ module _ (f : List ℕ) where
   first_fault_lem bad = case_first (first_case f bad)
 
   -- and what the check gives is: the first fault of a file that has one, and good for a file that has none
-  pub check_first : {x : Fault} → checked f ≡ Faulty x → First f x
+  pub check_first : {x : Fault} → checked f ≡ Err x → First f x
   check_first e = case_first (checked_case f e)
 
   pub good_if_none : ((x : Fault) → there f x ≡ false) → good_site f ≡ true
@@ -173,7 +173,7 @@ module _ (f : List ℕ) where
   some_clash (InPartition i Overlap) t ne = not-false _ (not-true _ (and_right (ltb i (partitions f)) (breaks f i Overlap) t))
 
   -- the earlier row of the pair that the check names the later one of: it clashes, and none before it does
-  pub earlier_first : {x : Fault} → checked f ≡ Faulty x → (fault_breach x ≡ 1 → ⊥)
+  pub earlier_first : {x : Fault} → checked f ≡ Err x → (fault_breach x ≡ 1 → ⊥)
       → (earlier_row f x < fault_row x) × (clashes f x (earlier_row f x) ≡ true) × ((j : ℕ) → j < earlier_row f x → clashes f x j ≡ false)
   unfolding earlier_row
   earlier_first {x} e ne =

@@ -1,4 +1,5 @@
 -- The laws of names in a site file: how a row's name is compared, and that a name stands in one row.
+use Rattle.std.specs.Prelude.{Option, is_some}
 use Prim.Native.Nat.{ℕ, ◌+◌, ◌*◌, ◌/◌, ◌%◌, ◌≤◌, ◌<◌}
 use native.Mathlib.Omega.{arith}
 use mathlib.Core.Path.{◌≡◌, sym, ap, ap₂, ◌∙◌, subst}
@@ -8,6 +9,8 @@ use lib.Dec.{eqb, ltb}
 use lib.ListN.{length}
 use borrow.Author.Tests.{eqb-true, ltb-true, ltb-false, not-true}
 use Rattle.rows.specs.Words.{any, first, same}
+use Rattle.rows.specs.Outcomes.{Finds}
+use Rattle.rows.proofs.OutcomeLaws.{finds_some}
 use Rattle.rows.proofs.BoolLaws.{by_test, by_eq, both, and_left, and_right, and_both, iff}
 use Rattle.rows.proofs.IndexLaws.{any_at, none_at, none_from, first_found}
 use Rattle.rows.proofs.NumberLaws.{Bytes, bytes_part}
@@ -39,6 +42,11 @@ pub named_match : (f : List ℕ) (from w : ℕ) (name : List ℕ) (i : ℕ) {p :
 unfolding named_at
 named_match f from w name i small bytes long inside is here e =
     sym (e ∙ ap₂ matches here is ∙ match_same (name_at f from w i) name (name_bytes f from w i small) bytes (name_long f from w i inside ∙ sym long))
+
+-- a search that found none, by the test for it
+pub none_found : (p : ℕ → Bool) (n : ℕ) (r : Option ℕ) (b : Bool) → Finds n (first p n) r → is_some r ≡ not b → b ≡ not (any p n)
+none_found p n r true h e = ap not (sym e ∙ finds_some p n r h)
+none_found p n r false h e = ap not (sym e ∙ finds_some p n r h)
 
 -- two names that are equal to one are equal
 names_join : (a b c : List ℕ) → same_name a c ≡ true → same_name b c ≡ true → same_name a b ≡ true

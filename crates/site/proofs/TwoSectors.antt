@@ -1,4 +1,5 @@
 -- Two different valid addresses never reach one sector.
+use Rattle.std.specs.Prelude.{Result, Ok}
 use Prim.Native.Nat.{ℕ, ◌+◌, ◌-◌, ◌*◌, ◌<◌}
 use native.Mathlib.Omega.{arith}
 use mathlib.Core.Path.{◌≡◌, sym, ap, ◌∙◌, subst}
@@ -11,15 +12,13 @@ use Rattle.rows.proofs.BoolLaws.{by_test, by_eq, both, and_left, and_right, and_
 use Rattle.rows.proofs.IndexLaws.{none_at, first_found, found_if}
 use Rattle.terms.specs.declared.Address.{Address}
 use Rattle.terms.specs.declared.Place.{Place}
+use Rattle.site.specs.declared.Refused.{Refused}
 use Rattle.site.specs.declared.PartitionRow.{PartitionRow}
-use Rattle.site.specs.declared.Placed.{Placed}
-use Rattle.site.specs.declared.Located.{Located}
-use Rattle.site.specs.declared.Located.TheVariants.{At, Faulty}
 use Rattle.site.specs.Layout.{partitions, partition_row}
 use Rattle.site.specs.Rules.{sectors, numbered, partition_numbered, meet, overlap, partitions_overlap, apart, good_site}
 use Rattle.site.specs.Faults.{first_fault}
 use Rattle.site.specs.Found.{index_of_number}
-use Rattle.site.specs.Places.{inside, place_on, placed_on, refused, placed_in, placed_by}
+use Rattle.site.specs.Places.{Placed, At, Faulty, located, inside, place_on, placed_on, refused, placed_in, placed_by}
 use Rattle.site.proofs.RuleLaws.{site_partition}
 use Rattle.site.proofs.PlaceLaws.{Inside, inside_is, inside_ends}
 
@@ -132,24 +131,24 @@ two_addresses_two_sectors f good a b za zb e =
     (subst (λ (i : ℕ). Inside (partition_row f i) b) one w.within)
     (subst (λ (i : ℕ). place_on (partition_row f v.row) a ≡ place_on (partition_row f i) b) one here)
 
--- the same over the contract of `place`, for any file: two calls that are not refused and give one place were asked for one address
-pub one_place_one_address : (f : List ℕ) (a b : Address) (r s : Located) → Gives (placed_by f a) r → Gives (placed_by f b) s
-    → (p q : Placed) → r ≡ At p → s ≡ At q → p.refusal ≡ 0 → q.refusal ≡ 0 → p.place ≡ q.place → a ≡ b
-one_place_one_address f a b r s given given' p q rp sq zp zq e =
-    let pa = located a p (sym given.answer ∙ rp) in
-    let qb = located b q (sym given'.answer ∙ sq) in
+-- the same over the contract of `place`, for any file: two calls that answer one place were asked for one address
+pub one_place_one_address : (f : List ℕ) (a b : Address) (r s : Result Place Refused) → Gives (placed_by f a) (located r) → Gives (placed_by f b) (located s)
+    → (p q : Place) → r ≡ Ok p → s ≡ Ok q → p ≡ q → a ≡ b
+one_place_one_address f a b r s given given' p q rp sq e =
+    let pa = placed_at a p (sym given.answer ∙ ap located rp) in
+    let qb = placed_at b q (sym given'.answer ∙ ap located sq) in
     two_addresses_two_sectors f pa.0 a b
-    (sym (ap (λ (x : Placed). x.refusal) pa.1) ∙ zp)
-    (sym (ap (λ (x : Placed). x.refusal) qb.1) ∙ zq)
-    (sym (ap (λ (x : Placed). x.place) pa.1) ∙ e ∙ ap (λ (x : Placed). x.place) qb.1)
+    (ap (λ (x : Placed). x.refusal) pa.1)
+    (ap (λ (x : Placed). x.refusal) qb.1)
+    (ap (λ (x : Placed). x.place) pa.1 ∙ e ∙ sym (ap (λ (x : Placed). x.place) qb.1))
   where
-    at_one : (x y : Placed) → At x ≡ At y → y ≡ x
+    at_one : (x y : Placed) → At x ≡ At y → x ≡ y
     at_one x y h = cc
 
     not_at : (x : Placed) → Faulty (first_fault f) ≡ At x → ⊥
     not_at x h = let z : ◌≡◌ {A = ℕ} 0 1 = cc in omega arith
 
-    located : (a : Address) (x : Placed) → placed_by f a ≡ At x → (good_site f ≡ true) × (x ≡ placed_in f a)
-    located a x h =
-        let is : cond (good_site f) (At (placed_in f a)) (Faulty (first_fault f)) ≡ At x = unfold placed_by in h in
-        by_test (good_site f) (λ y. (y, at_one _ x (rw y at is))) (λ n. absurd (not_at x (rw n at is)))
+    placed_at : (a : Address) (p : Place) → placed_by f a ≡ located (Ok p) → (good_site f ≡ true) × (placed_in f a ≡ record { refusal = 0; place = p })
+    placed_at a p h =
+        let is : cond (good_site f) (At (placed_in f a)) (Faulty (first_fault f)) ≡ At (record { refusal = 0; place = p }) = unfold placed_by located in h in
+        by_test (good_site f) (λ y. (y, at_one _ _ (rw y at is))) (λ n. absurd (not_at _ (rw n at is)))

@@ -1,9 +1,8 @@
 // The hashes by which the checks tell most rows apart: of a name, and of volume and number.
-ghost use Rattle.std.specs.Prelude.{◌≡◌, ◌+◌, ◌*◌, ◌≤◌, ◌<◌, length};
-ghost use Rattle.site.specs.Layout.{partitions_from};
+ghost use Rattle.std.specs.Prelude.{◌≡◌, ◌<◌, length};
 ghost use Rattle.site.specs.Shortcuts.{name_hash, number_hash};
 
-use crate::layout;
+use crate::layout::{PARTITION, Partitions};
 use terms::names;
 
 // The hash of a name. Equal names have equal hashes.
@@ -18,10 +17,12 @@ pub fn name_hash(name: &[u8]) -> usize
 }
 
 // The hash of volume and number of partition row i, one for each pair in range.
-pub fn number_hash(file: &[u8], from: usize, i: usize) -> usize
-    requires { (from ≡ partitions_from file.now) × (from + 24 * i + 24 ≤ length file.now) }
-    ensures { (result ≡ number_hash file.now i) × (result < 256) }
+pub fn number_hash(partitions: &Partitions, i: usize) -> usize
+    requires { i < partitions.now.count }
+    ensures { (result ≡ number_hash partitions.now.file.now i) × (result < 256) }
 {
-    let at = from + layout::PARTITION * i;
-    (64 * usize::from(file[at + 14]) + usize::from(file[at + 15])) % 256
+    let at = partitions.from + PARTITION * i;
+    let volume = usize::from(partitions.file[at + 14]);
+    let number = usize::from(partitions.file[at + 15]);
+    (64 * volume + number) % 256
 }

@@ -22,6 +22,7 @@ ghost use Rattle.site.specs.Faults.{checked, fault_row, earlier_row};
 ghost use Rattle.site.specs.Found.{has_user, index_of_name, index_of_number};
 ghost use Rattle.site.specs.Places.{placed_on, placed_in, placed_by, located, refused_number};
 
+use layout::{Partitions, Rows};
 use refusals::Refusal;
 use std::error::Error;
 use std::fmt;
@@ -114,12 +115,12 @@ pub fn check(file: &[u8]) -> Result<(), Fault>
     if !rules::header_good(file) {
         return Err(Fault::InHeader);
     }
-    let n = layout::users(file);
-    let i = rules::first_name_repeated(file, layout::USERS_FROM, layout::USER, n);
-    if i < n {
+    let users = Rows::users(file);
+    let i = users.first_name_repeated(users.count);
+    if i < users.count {
         return Err(Fault::InUser(i as u8));
     }
-    rules::check_partitions(file)
+    Partitions::of(file).check()
 }
 
 // The site file keeps every rule.
@@ -137,13 +138,10 @@ pub fn earlier_row(file: &[u8], fault: Fault) -> Option<usize>
 {
     match fault {
         Fault::InHeader => None,
-        Fault::InUser(row) => search::earlier_name(
-            file,
-            layout::USERS_FROM,
-            layout::USER,
-            usize::from(row),
-        ),
-        Fault::InPartition(row, breach) => search::earlier_clash(file, usize::from(row), breach),
+        Fault::InUser(row) => Rows::users(file).earlier_name(usize::from(row)),
+        Fault::InPartition(row, breach) => {
+            Partitions::of(file).earlier_clash(usize::from(row), breach)
+        }
     }
 }
 
@@ -152,9 +150,9 @@ pub fn has_user(file: &[u8], name: [u8; 8], password: [u8; 6]) -> bool
     requires { good_site file.now ≡ true }
     ensures { Gives (has_user file.now name password) result }
 {
-    let n = layout::users(file);
-    match search::find_name(file, layout::USERS_FROM, layout::USER, n, &name) {
-        Some(i) => layout::password_is(file, layout::USERS_FROM, layout::USER, i, &password),
+    let users = Rows::users(file);
+    match users.find_name(users.count, &name) {
+        Some(i) => users.password_is(i, &password),
         None => false,
     }
 }
@@ -164,14 +162,8 @@ pub fn partition_named(file: &[u8], name: [u8; 8]) -> Option<usize>
     requires { good_site file.now ≡ true }
     ensures { Finds (partitions file.now) (index_of_name file.now name) result }
 {
-    let n = layout::partitions(file);
-    search::find_name(
-        file,
-        layout::partitions_from(file),
-        layout::PARTITION,
-        n,
-        &name,
-    )
+    let partitions = Partitions::of(file);
+    partitions.rows().find_name(partitions.count, &name)
 }
 
 // The index of the partition row with this volume and number.
@@ -179,8 +171,8 @@ pub fn partition_numbered(file: &[u8], volume: Volume, partition: Partition) -> 
     requires { good_site file.now ≡ true }
     ensures { Finds (partitions file.now) (index_of_number file.now volume partition) result }
 {
-    let n = layout::partitions(file);
-    search::find_number(file, layout::partitions_from(file), n, volume, partition)
+    let partitions = Partitions::of(file);
+    partitions.find_number(partitions.count, volume, partition)
 }
 
 // How many partitions there are.
@@ -188,7 +180,7 @@ pub fn partition_count(file: &[u8]) -> usize
     requires { good_site file.now ≡ true }
     ensures { Gives (partitions file.now) result }
 {
-    layout::partitions(file)
+    Partitions::of(file).count
 }
 
 // Partition row i.
@@ -196,7 +188,7 @@ pub fn partition_row(file: &[u8], i: usize) -> PartitionRow
     requires { (good_site file.now ≡ true) × (i < partitions file.now) }
     ensures { Gives (partition_row file.now i) result }
 {
-    layout::row_of(file, layout::partitions_from(file), i)
+    Partitions::of(file).row(i)
 }
 
 // Partition row i has this password.
@@ -204,13 +196,7 @@ pub fn partition_password_is(file: &[u8], i: usize, password: [u8; 6]) -> bool
     requires { (good_site file.now ≡ true) × (i < partitions file.now) }
     ensures { Gives (same (partition_password file.now i) password) result }
 {
-    layout::password_is(
-        file,
-        layout::partitions_from(file),
-        layout::PARTITION,
-        i,
-        &password,
-    )
+    Partitions::of(file).rows().password_is(i, &password)
 }
 
 // The place on this row; 9 where the address lies outside it.
@@ -234,10 +220,10 @@ pub fn place_in(file: &[u8], address: Address) -> Result<Place, Refusal>
     requires { good_site file.now ≡ true }
     ensures { GivesUnless (placed_in file.now address).refusal (placed_in file.now address).place result }
 {
-    let i = partition_numbered(file, address.volume, address.partition).ok_or(
-        Refusal::NoSuchPartition,
-    )?;
-    place_on(partition_row(file, i), address)
+    match partition_numbered(file, address.volume, address.partition) {
+        Some(i) => place_on(partition_row(file, i), address),
+        None => Err(Refusal::NoSuchPartition),
+    }
 }
 
 // The place of an address in any file; the file's first fault, 10, or 8 or 9 where it has none.

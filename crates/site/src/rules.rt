@@ -1,12 +1,14 @@
-// The rules of a site file, header first, then the user rows, then the partition rows.
-ghost use Rattle.std.specs.Prelude.{◌≡◌, true, false, ◌+◌, ◌*◌, ◌≤◌, ◌<◌, length, Err};
+// The rules of a site file, header first, then the user rows, then the partition rows. Each of the functions `first_..` answers
+// how many rows are left before the first that breaks its rule, all n where none does: a count, that the next rule goes on with.
+ghost use Rattle.std.specs.Prelude.{◌≡◌, true, false, ◌+◌, ◌≤◌, ◌<◌, length, Err};
 ghost use Rattle.rows.specs.Words.{first, fails, zeros};
 ghost use Rattle.site.specs.declared.Fault.TheVariants.{InPartition};
-ghost use Rattle.site.specs.Layout.{users, partitions, partitions_from, whole_length, spare_at};
+ghost use Rattle.site.specs.Layout.{spare_at};
 ghost use Rattle.site.specs.Rules.{good_header, name_alone, ranged, sound, number_alone};
 ghost use Rattle.site.specs.Shortcuts.{left_by_range, left_by_name, left_by_number, left_by_overlap, checked_partitions};
 
-use crate::{Breach, Fault, PartitionRow, hashes, layout, overlaps, search, sizes};
+use crate::layout::{PARTITION, Partitions, Rows};
+use crate::{Breach, Fault, PartitionRow, hashes, layout, sizes};
 use rows::LowFirst;
 
 // Counts, offsets and the length of the file.
@@ -16,8 +18,8 @@ pub fn header_good(file: &[u8]) -> bool
     if file.len() < 8 {
         return false;
     }
-    let users = layout::users(file);
-    let partitions = layout::partitions(file);
+    let users = layout::user_count(file);
+    let partitions = layout::partition_count(file);
     if 128 < users {
         return false;
     }
@@ -31,37 +33,37 @@ pub fn header_good(file: &[u8]) -> bool
     if usize::from(u16::low_first_at(file, 6)) != from {
         return false;
     }
-    file.len() == from + layout::PARTITION * partitions
+    file.len() == from + PARTITION * partitions
 }
 
-// No earlier row of w bytes has the name of row i, where the rows begin at `from`: where its hash was not seen in an earlier
-// row, none has.
-fn name_alone(file: &[u8], from: usize, w: usize, i: usize, seen: bool) -> bool
-    requires w_in_bounds { (from + w * i + w ≤ length file.now) × (8 ≤ w) }
-    requires i_value { seen ≡ false → name_alone file.now from w i ≡ true }
-    ensures { result ≡ name_alone file.now from w i }
-{
-    if !seen {
-        return true;
-    }
-    search::earlier_name(file, from, w, i).is_none()
-}
-
-// The first of n rows of w bytes that has the name of an earlier one, or n. The hash of each name is marked, and only a name
-// whose hash was marked before is compared with those before it.
-pub fn first_name_repeated(file: &[u8], from: usize, w: usize, n: usize) -> usize
-    requires { (from + w * n ≤ length file.now) × (8 ≤ w) }
-    ensures { result ≡ first (fails (name_alone file.now from w)) n }
-{
-    let mut map = [0u32; 32];
-    for i in 0..n {
-        let key = layout::name_at(file, from, w, i);
-        let seen = rows::marks::mark(&mut map, hashes::name_hash(key));
-        if !name_alone(file, from, w, i, seen) {
-            return i;
+impl<'a> Rows<'a> {
+    // No earlier row has the name of row i: where its hash was not seen in an earlier row, none has.
+    fn name_alone(&self, i: usize, seen: bool) -> bool
+        requires i_in_bounds { i < self.now.count }
+        requires i_value { seen ≡ false → name_alone self.now.file.now self.now.from self.now.width i ≡ true }
+        ensures { result ≡ name_alone self.now.file.now self.now.from self.now.width i }
+    {
+        if !seen {
+            return true;
         }
+        self.earlier_name(i).is_none()
     }
-    n
+
+    // The first of n rows that has the name of an earlier one, or n. The hash of each name is marked, and only a name whose
+    // hash was marked before is compared with those before it.
+    pub fn first_name_repeated(&self, n: usize) -> usize
+        requires { n ≤ self.now.count }
+        ensures { result ≡ first (fails (name_alone self.now.file.now self.now.from self.now.width)) n }
+    {
+        let mut map = [0u32; 32];
+        for i in 0..n {
+            let seen = rows::marks::mark(&mut map, hashes::name_hash(self.name(i)));
+            if !self.name_alone(i, seen) {
+                return i;
+            }
+        }
+        n
+    }
 }
 
 // The row's numbers are in range.
@@ -91,57 +93,6 @@ fn spare_zero(file: &[u8], at: usize) -> bool
     rows::is_zero(rows::part(file, at + 22, 2))
 }
 
-// Partition row i alone: its numbers and its spare bytes. The partition rows begin at `from`, here and below.
-fn row_sound(file: &[u8], from: usize, i: usize) -> bool
-    requires { (from ≡ partitions_from file.now) × (from + 24 * i + 24 ≤ length file.now) }
-    ensures { result ≡ sound file.now i }
-{
-    if !row_ranged(layout::row_of(file, from, i)) {
-        return false;
-    }
-    spare_zero(file, from + layout::PARTITION * i)
-}
-
-// No earlier partition has both volume and number of row i: where their hash was not seen in an earlier row, none has.
-fn number_alone(file: &[u8], from: usize, i: usize, seen: bool) -> bool
-    requires from_value { (from ≡ partitions_from file.now) × (from + 24 * i + 24 ≤ length file.now) }
-    requires i_value { seen ≡ false → number_alone file.now i ≡ true }
-    ensures { result ≡ number_alone file.now i }
-{
-    if !seen {
-        return true;
-    }
-    search::earlier_number(file, from, i).is_none()
-}
-
-// The first of n partitions that has both volume and number of an earlier one, or n, by marks as above.
-fn first_number_repeated(file: &[u8], from: usize, n: usize) -> usize
-    requires { (from ≡ partitions_from file.now) × (from + 24 * n ≤ length file.now) }
-    ensures { result ≡ first (fails (number_alone file.now)) n }
-{
-    let mut map = [0u32; 8];
-    for i in 0..n {
-        let seen = rows::marks::mark(&mut map, hashes::number_hash(file, from, i));
-        if !number_alone(file, from, i, seen) {
-            return i;
-        }
-    }
-    n
-}
-
-// The first of n partition rows that is not sound by itself, or n.
-fn first_unsound(file: &[u8], from: usize, n: usize) -> usize
-    requires { (from ≡ partitions_from file.now) × (from + 24 * n ≤ length file.now) }
-    ensures { result ≡ first (fails (sound file.now)) n }
-{
-    for i in 0..n {
-        if !row_sound(file, from, i) {
-            return i;
-        }
-    }
-    n
-}
-
 // The partition rows, and how many of them are left after each rule: those before the first that breaks it or a rule
 // before it.
 #[derive(Clone, Copy)]
@@ -153,26 +104,6 @@ struct Left {
     apart: usize,
 }
 
-// Tests one rule after the other, each on the rows that the rules before it have left.
-fn rows_left(file: &[u8]) -> Left
-    requires { (length file.now ≡ whole_length file.now) × (partitions file.now ≤ 64) }
-    ensures { (result.rows ≡ partitions file.now) × (result.ranged ≡ left_by_range file.now) × (result.named ≡ left_by_name file.now) × (result.numbered ≡ left_by_number file.now) × (result.apart ≡ left_by_overlap file.now) }
-{
-    let rows = layout::partitions(file);
-    let from = layout::partitions_from(file);
-    let ranged = first_unsound(file, from, rows);
-    let named = first_name_repeated(file, from, layout::PARTITION, ranged);
-    let numbered = first_number_repeated(file, from, named);
-    let apart = overlaps::first_overlap(file, from, numbered);
-    Left {
-        rows,
-        ranged,
-        named,
-        numbered,
-        apart,
-    }
-}
-
 // A fault of partition row i.
 fn faulty(i: usize, breach: Breach) -> Result<(), Fault>
     requires { i < 256 }
@@ -181,24 +112,94 @@ fn faulty(i: usize, breach: Breach) -> Result<(), Fault>
     Err(Fault::InPartition(i as u8, breach))
 }
 
-// The first fault of the partition rows: where rows were taken away, the last rule that took some took them from the least
-// row on.
-pub fn check_partitions(file: &[u8]) -> Result<(), Fault>
-    requires { (length file.now ≡ whole_length file.now) × (partitions file.now ≤ 64) }
-    ensures { result ≡ checked_partitions file.now }
-{
-    let left = rows_left(file);
-    if left.rows <= left.apart {
-        return Ok(());
+impl<'a> Partitions<'a> {
+    // Row i alone: its numbers and its spare bytes.
+    fn is_sound(&self, i: usize) -> bool
+        requires { i < self.now.count }
+        ensures { result ≡ sound self.now.file.now i }
+    {
+        if !row_ranged(self.row(i)) {
+            return false;
+        }
+        spare_zero(self.file, self.from + PARTITION * i)
     }
-    if left.apart < left.numbered {
-        return faulty(left.apart, Breach::Overlap);
+
+    // The first of n rows that is not sound by itself, or n.
+    fn first_unsound(&self, n: usize) -> usize
+        requires { n ≤ self.now.count }
+        ensures { result ≡ first (fails (sound self.now.file.now)) n }
+    {
+        for i in 0..n {
+            if !self.is_sound(i) {
+                return i;
+            }
+        }
+        n
     }
-    if left.numbered < left.named {
-        return faulty(left.numbered, Breach::Number);
+
+    // No earlier row has both volume and number of row i: where their hash was not seen in an earlier row, none has.
+    fn number_alone(&self, i: usize, seen: bool) -> bool
+        requires i_in_bounds { i < self.now.count }
+        requires i_value { seen ≡ false → number_alone self.now.file.now i ≡ true }
+        ensures { result ≡ number_alone self.now.file.now i }
+    {
+        if !seen {
+            return true;
+        }
+        self.earlier_number(i).is_none()
     }
-    if left.named < left.ranged {
-        return faulty(left.named, Breach::Name);
+
+    // The first of n rows that has both volume and number of an earlier one, or n, by marks as above.
+    fn first_number_repeated(&self, n: usize) -> usize
+        requires { n ≤ self.now.count }
+        ensures { result ≡ first (fails (number_alone self.now.file.now)) n }
+    {
+        let mut map = [0u32; 8];
+        for i in 0..n {
+            let seen = rows::marks::mark(&mut map, hashes::number_hash(self, i));
+            if !self.number_alone(i, seen) {
+                return i;
+            }
+        }
+        n
     }
-    faulty(left.ranged, Breach::Range)
+
+    // Tests one rule after the other, each on the rows that the rules before it have left.
+    fn rows_left(&self) -> Left
+        requires { self.now.count ≤ 64 }
+        ensures { (result.rows ≡ self.now.count) × (result.ranged ≡ left_by_range self.now.file.now) × (result.named ≡ left_by_name self.now.file.now) × (result.numbered ≡ left_by_number self.now.file.now) × (result.apart ≡ left_by_overlap self.now.file.now) }
+    {
+        let ranged = self.first_unsound(self.count);
+        let named = self.rows().first_name_repeated(ranged);
+        let numbered = self.first_number_repeated(named);
+        let apart = self.first_overlap(numbered);
+        Left {
+            rows: self.count,
+            ranged,
+            named,
+            numbered,
+            apart,
+        }
+    }
+
+    // The first fault of the rows: where rows were taken away, the last rule that took some took them from the least row on.
+    pub fn check(&self) -> Result<(), Fault>
+        requires { self.now.count ≤ 64 }
+        ensures { result ≡ checked_partitions self.now.file.now }
+    {
+        let left = self.rows_left();
+        if left.rows <= left.apart {
+            return Ok(());
+        }
+        if left.apart < left.numbered {
+            return faulty(left.apart, Breach::Overlap);
+        }
+        if left.numbered < left.named {
+            return faulty(left.numbered, Breach::Number);
+        }
+        if left.named < left.ranged {
+            return faulty(left.named, Breach::Name);
+        }
+        faulty(left.ranged, Breach::Range)
+    }
 }

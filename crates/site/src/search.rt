@@ -4,77 +4,37 @@ ghost use Rattle.rows.specs.Words.{first};
 ghost use Rattle.rows.specs.Outcomes.{Finds};
 ghost use Rattle.site.specs.declared.Breach.TheVariants.{Overlap};
 ghost use Rattle.site.specs.declared.Fault.TheVariants.{InPartition};
-ghost use Rattle.site.specs.Layout.{partitions, partitions_from, whole_length, name_at, row_at, partition_row};
+ghost use Rattle.site.specs.Layout.{name_at, row_at, partition_row};
 ghost use Rattle.site.specs.Faults.{earlier_row};
 ghost use Rattle.site.specs.Rules.{named_at, ranged, meet, partition_numbered, partitions_overlap};
 
-use crate::{Breach, layout, sizes};
+use crate::layout::{PARTITION, Partitions, Rows};
+use crate::{Breach, sizes};
 use rows::LowFirst;
 use terms::{Partition, Volume, names};
 
-// The first of n rows of w bytes, where the rows begin at `from`, with this name. The padding of the name is looked for
-// once, and each row is one comparison.
-pub fn find_name(file: &[u8], from: usize, w: usize, n: usize, name: &[u8]) -> Option<usize>
-    requires { (from + w * n ≤ length file.now) × (8 ≤ w) × (length name.now ≡ 8) }
-    ensures { Finds n (first (named_at file.now from w name.now) n) result }
-{
-    let pattern = names::pattern_of(name);
-    for i in 0..n {
-        if names::matches(layout::name_at(file, from, w, i), pattern) {
-            return Some(i);
+impl<'a> Rows<'a> {
+    // The first of n rows with this name. The padding of the name is looked for once, and each row is one comparison.
+    pub fn find_name(&self, n: usize, name: &[u8]) -> Option<usize>
+        requires { (n ≤ self.now.count) × (length name.now ≡ 8) }
+        ensures { Finds n (first (named_at self.now.file.now self.now.from self.now.width name.now) n) result }
+    {
+        let pattern = names::pattern_of(name);
+        for i in 0..n {
+            if names::matches(self.name(i), pattern) {
+                return Some(i);
+            }
         }
+        None
     }
-    None
-}
 
-// The first row before row i with its name.
-pub fn earlier_name(file: &[u8], from: usize, w: usize, i: usize) -> Option<usize>
-    requires { (from + w * i + w ≤ length file.now) × (8 ≤ w) }
-    ensures { Finds i (first (named_at file.now from w (name_at file.now from w i)) i) result }
-{
-    find_name(file, from, w, i, layout::name_at(file, from, w, i))
-}
-
-// Partition row i has this volume and number. The partition rows begin at `from`, here and below.
-fn is_numbered(file: &[u8], from: usize, i: usize, volume: Volume, partition: Partition) -> bool
-    requires { (from ≡ partitions_from file.now) × (from + 24 * i + 24 ≤ length file.now) }
-    ensures { result ≡ partition_numbered file.now volume partition i }
-{
-    let at = from + layout::PARTITION * i;
-    if file[at + 14] != volume.0 {
-        return false;
+    // The first row before row i with its name.
+    pub fn earlier_name(&self, i: usize) -> Option<usize>
+        requires { i < self.now.count }
+        ensures { Finds i (first (named_at self.now.file.now self.now.from self.now.width (name_at self.now.file.now self.now.from self.now.width i)) i) result }
+    {
+        self.find_name(i, self.name(i))
     }
-    file[at + 15] == partition.0
-}
-
-// The first of n partition rows with this volume and number.
-pub fn find_number(
-    file: &[u8],
-    from: usize,
-    n: usize,
-    volume: Volume,
-    partition: Partition,
-) -> Option<usize>
-    requires { (from ≡ partitions_from file.now) × (from + 24 * n ≤ length file.now) }
-    ensures { Finds n (first (partition_numbered file.now volume partition) n) result }
-{
-    for i in 0..n {
-        if is_numbered(file, from, i, volume, partition) {
-            return Some(i);
-        }
-    }
-    None
-}
-
-// The first row before partition row i with its volume and number.
-pub fn earlier_number(file: &[u8], from: usize, i: usize) -> Option<usize>
-    requires { (from ≡ partitions_from file.now) × (from + 24 * i + 24 ≤ length file.now) }
-    ensures { Finds i (first (partition_numbered file.now (partition_row file.now i).volume (partition_row file.now i).partition) i) result }
-{
-    let row = layout::row_of(file, from, i);
-    let volume = row.volume;
-    let partition = row.partition;
-    find_number(file, from, i, volume, partition)
 }
 
 // Of the rows at bytes a and b each begins before the other ends, whatever their volumes.
@@ -91,45 +51,80 @@ fn rows_meet(file: &[u8], a: usize, b: usize) -> bool
     first_b < first_a + sizes::sectors(file[a + 16])
 }
 
-// Partition rows i and j are on one volume and overlap.
-fn rows_overlap(file: &[u8], from: usize, i: usize, j: usize) -> bool
-    requires from_value { (from ≡ partitions_from file.now) × (from + 24 * i + 24 ≤ length file.now) × (from + 24 * j + 24 ≤ length file.now) }
-    requires i_value { (ranged (partition_row file.now i) ≡ true) × (ranged (partition_row file.now j) ≡ true) }
-    ensures { result ≡ partitions_overlap file.now i j }
-{
-    let a = from + layout::PARTITION * i;
-    let b = from + layout::PARTITION * j;
-    if file[a + 14] != file[b + 14] {
-        return false;
-    }
-    rows_meet(file, a, b)
-}
-
-// The first of the rows before partition row i that it overlaps.
-pub fn find_overlap(file: &[u8], from: usize, i: usize) -> Option<usize>
-    requires from_value { (from ≡ partitions_from file.now) × (from + 24 * i + 24 ≤ length file.now) }
-    requires by_index { (j : ℕ) → j ≤ i → ranged (partition_row file.now j) ≡ true }
-    ensures { Finds i (first (partitions_overlap file.now i) i) result }
-{
-    for j in 0..i {
-        if rows_overlap(file, from, i, j) {
-            return Some(j);
+impl<'a> Partitions<'a> {
+    // Row i has this volume and number.
+    fn is_numbered(&self, i: usize, volume: Volume, partition: Partition) -> bool
+        requires { i < self.now.count }
+        ensures { result ≡ partition_numbered self.now.file.now volume partition i }
+    {
+        let at = self.from + PARTITION * i;
+        if self.file[at + 14] != volume.0 {
+            return false;
         }
+        self.file[at + 15] == partition.0
     }
-    None
-}
 
-// The first row before partition row i that clashes with it in this way.
-pub fn earlier_clash(file: &[u8], i: usize, breach: Breach) -> Option<usize>
-    requires file_len { (length file.now ≡ whole_length file.now) × (i < partitions file.now) }
-    requires j_value { breach ≡ Overlap → (j : ℕ) → j ≤ i → ranged (partition_row file.now j) ≡ true }
-    ensures { Finds i (earlier_row file.now (InPartition i breach)) result }
-{
-    let from = layout::partitions_from(file);
-    match breach {
-        Breach::Range => None,
-        Breach::Name => earlier_name(file, from, layout::PARTITION, i),
-        Breach::Number => earlier_number(file, from, i),
-        Breach::Overlap => find_overlap(file, from, i),
+    // The first of n rows with this volume and number.
+    pub fn find_number(&self, n: usize, volume: Volume, partition: Partition) -> Option<usize>
+        requires { n ≤ self.now.count }
+        ensures { Finds n (first (partition_numbered self.now.file.now volume partition) n) result }
+    {
+        for i in 0..n {
+            if self.is_numbered(i, volume, partition) {
+                return Some(i);
+            }
+        }
+        None
+    }
+
+    // The first row before row i with its volume and number.
+    pub fn earlier_number(&self, i: usize) -> Option<usize>
+        requires { i < self.now.count }
+        ensures { Finds i (first (partition_numbered self.now.file.now (partition_row self.now.file.now i).volume (partition_row self.now.file.now i).partition) i) result }
+    {
+        let row = self.row(i);
+        self.find_number(i, row.volume, row.partition)
+    }
+
+    // Rows i and j are on one volume and overlap.
+    fn overlap(&self, i: usize, j: usize) -> bool
+        requires i_in_bounds { (i < self.now.count) × (j < self.now.count) }
+        requires i_value { (ranged (partition_row self.now.file.now i) ≡ true) × (ranged (partition_row self.now.file.now j) ≡ true) }
+        ensures { result ≡ partitions_overlap self.now.file.now i j }
+    {
+        let a = self.from + PARTITION * i;
+        let b = self.from + PARTITION * j;
+        if self.file[a + 14] != self.file[b + 14] {
+            return false;
+        }
+        rows_meet(self.file, a, b)
+    }
+
+    // The first of the rows before row i that it overlaps.
+    pub fn find_overlap(&self, i: usize) -> Option<usize>
+        requires i_in_bounds { i < self.now.count }
+        requires by_index { (j : ℕ) → j ≤ i → ranged (partition_row self.now.file.now j) ≡ true }
+        ensures { Finds i (first (partitions_overlap self.now.file.now i) i) result }
+    {
+        for j in 0..i {
+            if self.overlap(i, j) {
+                return Some(j);
+            }
+        }
+        None
+    }
+
+    // The first row before row i that clashes with it in this way.
+    pub fn earlier_clash(&self, i: usize, breach: Breach) -> Option<usize>
+        requires i_in_bounds { i < self.now.count }
+        requires j_value { breach ≡ Overlap → (j : ℕ) → j ≤ i → ranged (partition_row self.now.file.now j) ≡ true }
+        ensures { Finds i (earlier_row self.now.file.now (InPartition i breach)) result }
+    {
+        match breach {
+            Breach::Range => None,
+            Breach::Name => self.rows().earlier_name(i),
+            Breach::Number => self.earlier_number(i),
+            Breach::Overlap => self.find_overlap(i),
+        }
     }
 }

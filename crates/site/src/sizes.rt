@@ -9,7 +9,7 @@ pub fn tracks(size: u8) -> u32
     requires { (1 ≤ size) × (size ≤ 6) }
     ensures { (result ≡ tracks_of size) × (result ≤ 512) }
 {
-    8 << u32::from(size)
+    8 << size
 }
 
 // Its sectors.

@@ -1,9 +1,7 @@
-use Rattle.site.proofs.FaultLaws.{checked_good, checked_is}
-use mathlib.Core.Path.{sym, ◌∙◌}
+use Rattle.std.specs.Prelude.{is_ok}
+use Rattle.site.proofs.FaultLaws.{checked_ok}
+use mathlib.Core.Path.{ap, ◌∙◌}
 use Rattle.site.proofs.is_good.Goals as goal
 
-pub returns-in-Good : goal.returns-in-Good
-returns-in-Good c = record { answer = sym (checked_good _ (sym c.check-checked.ensures.answer ∙ c.in-Good.is)) }
-
-pub returns-in-Faulty : goal.returns-in-Faulty
-returns-in-Faulty c = record { answer = sym (checked_is _ (sym c.check-checked.ensures.answer ∙ c.in-Faulty.is)).0 }
+pub returns : goal.returns
+returns c = record { answer = c.is_ok.ensures.value ∙ ap is_ok c.check.ensures.answer ∙ checked_ok _ }

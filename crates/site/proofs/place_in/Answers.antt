@@ -1,30 +1,25 @@
-use Rattle.site.specs.Found.{index_of_number}
-use Prim.Native.Nat.{◌<◌, ◌≤◌}
-use mathlib.Core.Path.{ap, ◌∙◌}
-use Rattle.site.specs.Layout.{partitions, partition_row}
 use Rattle.site.proofs.RuleLaws.{site_partition}
-use Rattle.site.specs.Places.{placed_in, placed_on}
+use Rattle.site.specs.Places.{placed_in, refused}
+use Rattle.site.specs.Layout.{partitions}
+use Rattle.site.specs.Found.{index_of_number}
+use Prim.Native.Nat.{◌≤◌}
 use borrow.Author.Tests.{lt-ltb, le-ltb}
+use mathlib.Core.Path.{refl, sym}
 use native.Mathlib.Omega.{arith}
 use Rattle.site.proofs.place_in.Goals as goal
 
-pub partition_row-requires : goal.partition_row-requires
-partition_row-requires c = (c.requires, rw c.partition_count.ensures.answer at c.if-i-partition_count.true)
-
 pub place_on-requires : goal.place_on-requires
-place_on-requires c = let i = c.partition_numbered-i.result in
-    rw c.partition_row.ensures.answer (site_partition c.args.file.now c.requires i (rw c.partition_count.ensures.answer at c.if-i-partition_count.true)).range
+place_on-requires c =
+    rw c.partition_row.ensures.answer (site_partition c.args.file.now c.requires c.in-Some.i c.in-Some.ensures.1).range
 
-pub returns-then-i-partition_count : goal.returns-then-i-partition_count
+pub returns-in-Some : goal.returns-in-Some
 unfolding placed_in
-returns-then-i-partition_count c = let a = c.args in
-    let i = c.partition_numbered-i.ensures.answer in
-    let below : index_of_number a.file.now a.address.volume a.address.partition < partitions a.file.now = omega (arith, i, c.partition_count.ensures.answer, c.if-i-partition_count.true) in
-    record { answer = rw (lt-ltb _ _ below) (c.place_on.ensures ∙ ap (λ r. placed_on r a.address) (c.partition_row.ensures.answer ∙ ap (partition_row a.file.now) i)) }
+returns-in-Some c =
+    rw (sym c.in-Some.ensures.0, lt-ltb _ _ c.in-Some.ensures.1) (rw c.partition_row.ensures.answer at c.place_on.ensures)
 
-pub returns : goal.returns
-unfolding placed_in
-returns c = let a = c.args in
-    let i = c.partition_numbered-i.ensures.answer in
-    let past : partitions a.file.now ≤ index_of_number a.file.now a.address.volume a.address.partition = omega (arith, i, c.partition_count.ensures.answer, c.if-i-partition_count.false) in
-    record { answer = rw (le-ltb _ _ past) c.refused.ensures }
+pub returns-in-None : goal.returns-in-None
+unfolding placed_in refused
+returns-in-None c =
+    let a = c.args in
+    let past : partitions a.file.now ≤ index_of_number a.file.now a.address.volume a.address.partition = omega (arith, c.in-None.ensures) in
+    rw (le-ltb _ _ past) refl

@@ -1,7 +1,7 @@
 use Rattle.site.proofs.PlaceLaws.{place_ends}
 use Rattle.site.proofs.RuleLaws.{ranged_is}
-use Rattle.site.specs.Places.{inside, place_on, placed_on}
-use mathlib.Core.Path.{sym, ◌∙◌}
+use Rattle.site.specs.Places.{refused, inside, place_on, placed_on}
+use mathlib.Core.Path.{refl, sym, ◌∙◌}
 use native.Mathlib.Omega.{arith}
 use Rattle.site.proofs.place_on.Goals as goal
 
@@ -9,25 +9,25 @@ pub is_inside-requires : goal.is_inside-requires
 is_inside-requires c = let r = ranged_is _ c.requires in (r.least, r.most)
 
 pub returns-then-not-is_inside : goal.returns-then-not-is_inside
-unfolding placed_on inside
-returns-then-not-is_inside c = rw (sym c.is_inside.ensures ∙ c.if-not-is_inside.true) c.refused.ensures
+unfolding placed_on inside refused
+returns-then-not-is_inside c = rw (sym c.is_inside.ensures ∙ c.if-not-is_inside.true) refl
 
-pub overflow_mul-place : goal.overflow_mul-place
+pub overflow_mul-result : goal.overflow_mul-result
 unfolding inside
-overflow_mul-place c = omega (arith, place_ends c.args.row c.args.address c.requires (sym c.is_inside.ensures ∙ c.if-not-is_inside.false))
+overflow_mul-result c = omega (arith, place_ends c.args.row c.args.address c.requires (sym c.is_inside.ensures ∙ c.if-not-is_inside.false))
 
-pub overflow_add-place : goal.overflow_add-place
+pub overflow_add-result : goal.overflow_add-result
 unfolding inside
-overflow_add-place c = omega (arith, place_ends c.args.row c.args.address c.requires (sym c.is_inside.ensures ∙ c.if-not-is_inside.false))
+overflow_add-result c = omega (arith, place_ends c.args.row c.args.address c.requires (sym c.is_inside.ensures ∙ c.if-not-is_inside.false))
 
-pub overflow_add-place-2 : goal.overflow_add-place-2
+pub overflow_add-result-2 : goal.overflow_add-result-2
 unfolding inside
-overflow_add-place-2 c = omega (arith, place_ends c.args.row c.args.address c.requires (sym c.is_inside.ensures ∙ c.if-not-is_inside.false))
+overflow_add-result-2 c = omega (arith, place_ends c.args.row c.args.address c.requires (sym c.is_inside.ensures ∙ c.if-not-is_inside.false))
 
-pub overflow_sub-place : goal.overflow_sub-place
+pub overflow_sub-result : goal.overflow_sub-result
 unfolding inside
-overflow_sub-place c = omega (arith, place_ends c.args.row c.args.address c.requires (sym c.is_inside.ensures ∙ c.if-not-is_inside.false))
+overflow_sub-result c = omega (arith, place_ends c.args.row c.args.address c.requires (sym c.is_inside.ensures ∙ c.if-not-is_inside.false))
 
 pub returns : goal.returns
 unfolding placed_on place_on inside
-returns c = rw (sym c.is_inside.ensures ∙ c.if-not-is_inside.false)
+returns c = rw (sym c.is_inside.ensures ∙ c.if-not-is_inside.false, c.from-track.ensures, c.from-sector.ensures) (refl, refl)

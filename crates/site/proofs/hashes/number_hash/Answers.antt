@@ -7,4 +7,4 @@ use Rattle.site.proofs.hashes.number_hash.Goals as goal
 pub returns : goal.returns
 unfolding number_hash row_at
 returns c =
-    (rw (sym c.requires.0, c.index_of.ensures.0, c.index_of-2.ensures.0), omega arith)
+    (rw (sym c.args.partitions.now.begins, c.from-volume.ensures, c.from-number.ensures), omega arith)

@@ -10,11 +10,11 @@ pub overflow_add-end : goal.overflow_add-end
 overflow_add-end c = omega (arith, (ranged_is _ c.requires).ends, c.sectors.ensures.0)
 
 pub bounds-ends-volume : goal.bounds-ends-volume
-bounds-ends-volume c = omega (arith, (ranged_is _ c.requires).volume, c.index_of-volume.ensures.0)
+bounds-ends-volume c = omega (arith, (ranged_is _ c.requires).volume, c.from-volume.ensures)
 
 pub bounds-ends-volume-2 : goal.bounds-ends-volume-2
-bounds-ends-volume-2 c = omega (arith, (ranged_is _ c.requires).volume, c.index_of-volume.ensures.0)
+bounds-ends-volume-2 c = omega (arith, (ranged_is _ c.requires).volume, c.from-volume.ensures)
 
 pub returns : goal.returns
 unfolding past passing
-returns c = (rw c.index_of-volume.ensures.0, rw (c.later.ensures, c.sectors.ensures.0, c.index_of-volume.ensures.0))
+returns c = (rw c.from-volume.ensures, rw (c.max.ensures, c.sectors.ensures.0, c.from-volume.ensures))
