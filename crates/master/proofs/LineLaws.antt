@@ -15,11 +15,15 @@ use Rattle.frames.specs.Table.{length_in, frame_length, frame_table, ACKNOWLEDGE
 use Rattle.frames.specs.Reading.{code, refusal_of}
 use Rattle.site.specs.Rules.{good_site}
 use Rattle.who.specs.Logins.{logged_in}
-use Rattle.framing.specs.Reading.{data_in, ReadsStart}
+use Rattle.framing.specs.Reading.{data_in, heading_in, put_unless, ReadsStart}
 use Rattle.framing.specs.Writing.{Writes}
-use Rattle.framing.specs.declared.Written.TheVariants.{Bits}
-use Rattle.framing.specs.declared.Reading.TheVariants.{Refused as Unread, Frame}
-use Rattle.framing.proofs.Theorems.{start_refused, start_read, written_back}
+use Rattle.framing.specs.declared.Heading.{Heading}
+use Rattle.framing.proofs.Theorems.{written_back}
+use Rattle.std.specs.Prelude.{Result, Ok, Err}
+use Rattle.refusals.specs.declared.Refusal.{Refusal}
+use Rattle.refusals.specs.Refusals.{number}
+use Rattle.refusals.proofs.OutcomeLaws.{number_never_0}
+use Rattle.site.specs.declared.Refused.{Refused}
 use Rattle.master.specs.declared.Answer.{Answer}
 use Rattle.master.specs.declared.Received.{Received}
 use Rattle.master.specs.declared.Received.TheVariants.{Another, Answered as AsFrame}
@@ -95,35 +99,40 @@ start_is d b e =
     ∙ take_at (take 21 d) (drop (length (take 21 d)) b) (min (length d) 21) (omega (arith, length-take 21 d))
 
 module _ (n : ℕ) (b : List ℕ) (k : ℕ) (s t w : List ℕ) where
-  pub line_refused : (z z' : List ℕ) (r : ℕ) → ReadsStart b k z (Unread r) z' → Does (line_effect n b k s t w) (refuses r) t w
+  pub line_refused : (z z' : List ℕ) (r : Refusal) → ReadsStart b k z (Err r) z' → Does (line_effect n b k s t w) (refuses (number r)) t w
   unfolding line_effect unless
-  line_refused z z' r h =
-      let told = start_refused b k z r z' h in
-      rw (sym told.1, ne_eqb r 0 told.2) (record { answer = refl; locks = refl; records = refl })
+  line_refused z z' r h = rw (h.answer, ne_eqb (number r) 0 (number_never_0 r)) (record { answer = refl; locks = refl; records = refl })
 
-  pub line_heard : (z z' : List ℕ) (user len : ℕ) → length z ≡ 21 → ReadsStart b k z (Frame user len) z' → {told : Told} {t' w' : List ℕ}
-      → Does (heard_effect n user len (take (min len 21) z') s t w) told t' w' → Does (line_effect n b k s t w) told t' w'
-  unfolding line_effect unless heard_effect
-  line_heard z z' user len e h {told} {t'} {w'} done =
-      let read = start_read b k z user len z' h in
+  pub line_heard : (z z' : List ℕ) (h : Heading) → length z ≡ 21 → ReadsStart b k z (Ok h) z' → {told : Told} {t' w' : List ℕ}
+      → Does (heard_effect n h.user h.length (take (min h.length 21) z') s t w) told t' w' → Does (line_effect n b k s t w) told t' w'
+  unfolding line_effect unless heard_effect heading_in put_unless
+  line_heard z z' h e read {told} {t'} {w'} done =
       let d : List ℕ = data_in b k in
-      let same : heard_effect n user len (take (min len 21) z') s t w ≡ line_effect n b k s t w = rw (read.0, read.1, read.2, read.3, start_is d z e, start_effect n s t w d) in
+      let none = read.answer.0 in
+      let user = ap (λ (x : Heading). x.user) read.answer.1 in
+      let long = ap (λ (x : Heading). x.length) read.answer.1 in
+      let start : z' ≡ over (take (length z) d) z = read.left ∙ rw none in
+      let same : heard_effect n h.user h.length (take (min h.length 21) z') s t w ≡ line_effect n b k s t w = rw (none, user, long, start, start_is d z e, start_effect n s t w d) in
       subst (λ (x : Effect (List ℕ)). Does x told t' w') same done
 
 -- a frame to another is told, and nothing changes
-pub heard_another : (n user len : ℕ) (d s t w : List ℕ) → (user ≡ 0 → ⊥) → Does (heard_effect n user len d s t w) (received_told (Another user len)) t w
+pub heard_another : (n : ℕ) (h : Heading) (d s t w : List ℕ) → (h.user ≡ 0 → ⊥) → Does (heard_effect n h.user h.length d s t w) (received_told (Ok (Another h))) t w
 unfolding heard_effect received_told
-heard_another n user len d s t w h = rw (ne_eqb user 0 h) (record { answer = refl; locks = refl; records = refl })
+heard_another n h d s t w ne = rw (ne_eqb h.user 0 ne) (record { answer = refl; locks = refl; records = refl })
 
--- one to the master is served
-pub heard_served : (n user len : ℕ) (d s t w : List ℕ) (a : Answer) (t' w' : List ℕ) → user ≡ 0 → Serves n d s t w a t' w'
-    → Does (heard_effect n user len d s t w) (received_told (AsFrame a)) t' w'
-unfolding heard_effect received_told
-heard_served n user len d s t w a t' w' e h = rw e h
+-- one to the master is served, or refused as there
+module _ {n user len : ℕ} {d s t w t' w' : List ℕ} (to_it : user ≡ 0) where
+  pub heard_served : {a : Answer} → Serves n d s t w (Ok a) t' w' → Does (heard_effect n user len d s t w) (received_told (Ok (AsFrame a))) t' w'
+  unfolding heard_effect received_told
+  heard_served done = rw to_it done
+
+  pub heard_refused : {e : Refused} → Serves n d s t w (Err e) t' w' → Does (heard_effect n user len d s t w) (received_told (Err e)) t' w'
+  unfolding heard_effect received_told
+  heard_refused done = rw to_it done
 
 -- ---- a request of a station, written to the line and received, is served as the request itself: whatever stood in the buffer, and
 -- whatever bits follow
-pub line_served : (d b : List ℕ) (bits : ℕ) (b' : List ℕ) → Bytes d → Writes MASTER d b (Bits bits) b' → (k : ℕ) → bits ≤ k → k ≤ 8 * length b'
+pub line_served : (d b : List ℕ) (bits : ℕ) (b' : List ℕ) → Bytes d → Writes MASTER d b (Ok bits) b' → (k : ℕ) → bits ≤ k → k ≤ 8 * length b'
     → (n : ℕ) (s t w : List ℕ) → line_effect n b' k s t w ≡ frame_effect n d s t w
 unfolding line_effect unless heard_effect
 line_served d b bits b' each h k l g n s t w =
@@ -131,12 +140,30 @@ line_served d b bits b' each h k l g n s t w =
     rw (back.0, back.1, back.2)
 
 -- ---- only one outcome: an answer is known by what it tells
-received_one : (a b : Received) → received_told a ≡ received_told b → a ≡ b
-unfolding received_told
-received_one (Another user len) (Another user' len') e = cc
-received_one (Another user len) (AsFrame b) e = absurd (line_not_told user len b e)
-received_one (AsFrame a) (Another user len) e = absurd (line_not_told user len a (sym e))
-received_one (AsFrame a) (AsFrame b) e = ap AsFrame (told_one a b e)
+ok_one : {a b : Answer} → ◌≡◌ {A = Result Answer Refused} (Ok a) (Ok b) → a ≡ b
+ok_one e = cc
 
-pub line_one : {e : Effect (List ℕ)} {r r' : Received} {t₁ t₂ w₁ w₂ : List ℕ} → Does e (received_told r) t₁ w₁ → Does e (received_told r') t₂ w₂ → (r ≡ r') × (t₁ ≡ t₂) × (w₁ ≡ w₂)
+err_one : {a b : Refused} → ◌≡◌ {A = Result Answer Refused} (Err a) (Err b) → a ≡ b
+err_one e = cc
+
+ok_no_err : {a : Answer} {b : Refused} → ◌≡◌ {A = Result Answer Refused} (Ok a) (Err b) → ⊥
+ok_no_err e = let z : ◌≡◌ {A = ℕ} 0 1 = cc in omega arith
+
+received_one : (a b : Result Received Refused) → received_told a ≡ received_told b → a ≡ b
+unfolding received_told
+received_one (Ok (Another g)) (Ok (Another h)) e =
+    let user : g.user ≡ h.user = cc in
+    let long : g.length ≡ h.length = cc in
+    let same : g ≡ h = λ i. record { user = user i; length = long i } in
+    ap (λ (x : Heading). Ok (Another x)) same
+received_one (Ok (Another h)) (Ok (AsFrame b)) e = absurd (line_not_told h.user h.length (Ok b) e)
+received_one (Ok (Another h)) (Err b) e = absurd (line_not_told h.user h.length (Err b) e)
+received_one (Ok (AsFrame a)) (Ok (Another h)) e = absurd (line_not_told h.user h.length (Ok a) (sym e))
+received_one (Ok (AsFrame a)) (Ok (AsFrame b)) e = let same : a ≡ b = ok_one (told_one (Ok a) (Ok b) e) in ap (λ (x : Answer). Ok (AsFrame x)) same
+received_one (Ok (AsFrame a)) (Err b) e = absurd (ok_no_err (told_one (Ok a) (Err b) e))
+received_one (Err a) (Ok (Another h)) e = absurd (line_not_told h.user h.length (Err a) (sym e))
+received_one (Err a) (Ok (AsFrame b)) e = absurd (ok_no_err (sym (told_one (Err a) (Ok b) e)))
+received_one (Err a) (Err b) e = let same : a ≡ b = err_one (told_one (Err a) (Err b) e) in ap Err same
+
+pub line_one : {e : Effect (List ℕ)} {r r' : Result Received Refused} {t₁ t₂ w₁ w₂ : List ℕ} → Does e (received_told r) t₁ w₁ → Does e (received_told r') t₂ w₂ → (r ≡ r') × (t₁ ≡ t₂) × (w₁ ≡ w₂)
 line_one a b = let one = does_one a b in (received_one _ _ one.0, one.1, one.2)

@@ -3,10 +3,21 @@ use Prim.Native.Nat.{ℕ}
 use mathlib.Core.Path.{◌≡◌, refl, sym, ap, ◌∙◌}
 use native.Mathlib.Omega.{arith}
 use mathlib.Core.List.{List}
+use lib.Dec.{eqb}
+use mathlib.Core.Bool.{cond}
 use borrow.Author.Tests.{ne_eqb}
 use Rattle.rows.proofs.BoolLaws.{by_eq}
+use Rattle.std.specs.Prelude.{Result, Ok, Err}
+use Rattle.refusals.specs.declared.Refusal.{Refusal}
+use Rattle.refusals.proofs.OutcomeLaws.{named, named_number}
+use Rattle.terms.specs.declared.Status as statuses
+use Rattle.terms.specs.declared.Status.TheVariants.{Granted, NotYours, HeldByAnother, AlreadyYours, NoRoom}
+use Rattle.terms.specs.Statuses.{byte_of}
+use Rattle.site.specs.declared.Refused.{Refused}
+use Rattle.site.specs.declared.Refused.TheVariants.{Site, By}
 use Rattle.master.specs.declared.Answer.{Answer}
-use Rattle.master.specs.declared.Answer.TheVariants.{Refused, Faulty, Nothing, Status, Assigned, At, LoggedIn}
+use Rattle.master.specs.declared.Answer.TheVariants.{Nothing, Status, Assigned, At, LoggedIn}
+use Rattle.site.specs.declared.Fault.{Fault}
 use Rattle.site.proofs.FirstFault.{fault_of, fault_back}
 use Rattle.master.specs.Answers.{Told, refuses, refuses_site, answers, refusal_number, fault_told, no_bytes, status_byte, assign_bytes, place_at, login_as, turn_was, frame_made, request_of, bits_of, line_of, honor_flag, told, Answered}
 use Rattle.master.specs.Refusals.{refusal}
@@ -22,41 +33,52 @@ pub refused_no_answer : {x : Told} {a : Answered} → (refusal_number x ≡ 0 �
 unfolding refusal_number
 refused_no_answer ne e = ne (ap refusal_number e)
 
--- what an answer tells, read back
-known : Told → Answer
-known (refuses k) = Refused k
-known (refuses_site part row breach) = Faulty (fault_of part row breach)
-known (answers no_bytes) = Nothing
-known (answers (status_byte s)) = Status s
-known (answers (assign_bytes z p c v)) = Assigned z (record { 0 = p }) c (record { 0 = v })
-known (answers (place_at v s)) = At (record { volume = record { 0 = v }; sector = s })
-known (answers (login_as n f s)) = LoggedIn n f s
-known (answers (turn_was d o)) = Nothing
-known (answers (frame_made l)) = Nothing
-known (answers (request_of code)) = Nothing
-known (answers (bits_of n)) = Nothing
-known (answers (line_of user n)) = Nothing
-known (answers (honor_flag n)) = Nothing
+-- the status of a byte
+abbrev pub status_named : ℕ → statuses.Status
+status_named b = cond (eqb b 0x00) Granted (cond (eqb b 0x01) HeldByAnother (cond (eqb b 0x02) NotYours (cond (eqb b 0x81) AlreadyYours NoRoom)))
 
-known_told : (a : Answer) → known (told a) ≡ a
+status_back : (s : statuses.Status) → status_named (byte_of s) ≡ s
+status_back Granted = refl
+status_back NotYours = refl
+status_back HeldByAnother = refl
+status_back AlreadyYours = refl
+status_back NoRoom = refl
+
+-- what an answer tells, read back
+known : Told → Result Answer Refused
+known (refuses k) = Err (By (named k))
+known (refuses_site part row breach) = Err (Site (fault_of part row breach))
+known (answers no_bytes) = Ok Nothing
+known (answers (status_byte b)) = Ok (Status (status_named b))
+known (answers (assign_bytes z p c v)) = Ok (Assigned z (record { 0 = p }) c (record { 0 = v }))
+known (answers (place_at v s)) = Ok (At (record { volume = record { 0 = v }; sector = s }))
+known (answers (login_as n f s)) = Ok (LoggedIn n f s)
+known (answers (turn_was d o)) = Ok Nothing
+known (answers (frame_made l)) = Ok Nothing
+known (answers (request_of code)) = Ok Nothing
+known (answers (bits_of n)) = Ok Nothing
+known (answers (line_of user n)) = Ok Nothing
+known (answers (honor_flag n)) = Ok Nothing
+
+known_told : (a : Result Answer Refused) → known (told a) ≡ a
 unfolding known told fault_told
-known_told (Refused k) = refl
-known_told (Faulty x) = ap Faulty (fault_back x)
-known_told Nothing = refl
-known_told (Status s) = refl
-known_told (Assigned size partition control volume) = refl
-known_told (At p) = refl
-known_told (LoggedIn number found serial) = refl
+known_told (Ok Nothing) = refl
+known_told (Ok (Status s)) = ap (λ (x : statuses.Status). Ok (Status x)) (status_back s)
+known_told (Ok (Assigned size partition control volume)) = refl
+known_told (Ok (At p)) = refl
+known_told (Ok (LoggedIn number found serial)) = refl
+known_told (Err (By r)) = ap (λ (x : Refusal). Err (By x)) (named_number r)
+known_told (Err (Site x)) = ap (λ (y : Fault). Err (Site y)) (fault_back x)
 
 -- two answers that tell the same are equal
-pub told_one : (a b : Answer) → told a ≡ told b → a ≡ b
+pub told_one : (a b : Result Answer Refused) → told a ≡ told b → a ≡ b
 told_one a b e = sym (known_told a) ∙ ap known e ∙ known_told b
 
 -- no answer to a frame tells a frame of the line
-pub line_not_told : (user len : ℕ) (a : Answer) → answers (line_of user len) ≡ told a → ⊥
+pub line_not_told : (user len : ℕ) (a : Result Answer Refused) → answers (line_of user len) ≡ told a → ⊥
 unfolding known told
 line_not_told user len a e =
-    let none : Nothing ≡ a = ap known e ∙ known_told a in
+    let none : Ok Nothing ≡ a = ap known e ∙ known_told a in
     let lie : answers (line_of user len) ≡ answers no_bytes = e ∙ sym (ap told none) in
     never lie
   where
@@ -64,7 +86,7 @@ line_not_told user len a e =
     never e = let z : ◌≡◌ {A = ℕ} 0 1 = cc in omega arith
 
 -- any two outcomes of an entry that answers so are equal
-pub answer_one : {e : Effect (List ℕ)} {r r' : Answer} {t₁ t₂ w₁ w₂ : List ℕ} → Does e (told r) t₁ w₁ → Does e (told r') t₂ w₂ → (r ≡ r') × (t₁ ≡ t₂) × (w₁ ≡ w₂)
+pub answer_one : {e : Effect (List ℕ)} {r r' : Result Answer Refused} {t₁ t₂ w₁ w₂ : List ℕ} → Does e (told r) t₁ w₁ → Does e (told r') t₂ w₂ → (r ≡ r') × (t₁ ≡ t₂) × (w₁ ≡ w₂)
 answer_one a b = let one = does_one a b in (told_one _ _ one.0, one.1, one.2)
 
 -- what a refusal tells has its number, 10 too
@@ -76,7 +98,7 @@ pub told_refuses : (s : List ℕ) (k : ℕ) → (k ≡ 0 → ⊥) → refusal_nu
 told_refuses s k ne z = ne (sym (told_number s k) ∙ z)
 
 -- a refused frame: the tables are what they were, and nothing is answered; 10 tells the first fault of the site file
-pub refused_untouched : (n : ℕ) (f s t w : List ℕ) (r : Answer) (t' w' : List ℕ) → Serves n f s t w r t' w' → (refusal n f s t w ≡ 0 → ⊥)
+pub refused_untouched : (n : ℕ) (f s t w : List ℕ) (r : Result Answer Refused) (t' w' : List ℕ) → Serves n f s t w r t' w' → (refusal n f s t w ≡ 0 → ⊥)
     → (told r ≡ refusal_told s (refusal n f s t w)) × (t' ≡ t) × (w' ≡ w)
 unfolding frame_effect
 refused_untouched n f s t w r t' w' a ne = refused_so _ _ _ _ _ ne a

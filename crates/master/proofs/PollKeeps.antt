@@ -1,7 +1,7 @@
 -- What a poll turn does to good tables, as one view, and to everybody: tables stay good, all others keep records and locks.
 use Prim.Native.Nat.{ℕ, ◌<◌}
 use native.Mathlib.Omega.{arith}
-use mathlib.Core.Path.{◌≡◌, refl, sym, ap, ap₂, ◌∙◌}
+use mathlib.Core.Path.{◌≡◌, refl, sym, ap, ◌∙◌}
 use mathlib.Core.Bool.{Bool, true, false}
 use mathlib.Core.List.{List, []}
 use lib.ListN.{length}
@@ -21,8 +21,12 @@ use Rattle.locks.specs.Good.{locks, good_locks}
 use Rattle.locks.specs.Table.{cleared_table}
 use Rattle.locks.specs.Holding.{has}
 use Rattle.locks.proofs.Keeps.{login_keeps}
+use Rattle.std.specs.Prelude.{Result, Ok, Err}
+use Rattle.refusals.specs.declared.Refusal.{Refusal}
+use Rattle.refusals.specs.Refusals.{number}
+use Rattle.refusals.specs.Outcomes.{refusal_in}
+use Rattle.refusals.proofs.OutcomeLaws.{number_one}
 use Rattle.master.specs.declared.Turned.{Turned}
-use Rattle.master.specs.declared.Turned.TheVariants.{Refused, Turn}
 use Rattle.master.specs.Tables.{good_tables}
 use Rattle.master.specs.Answers.{refuses, answers, turn_was, turn_told}
 use Rattle.master.specs.Polls.{station_at, with_counts, after_turn, poll_refusal, due_now, out_now, station_turn, poll_effect}
@@ -131,21 +135,28 @@ module _ (n : ℕ) (heard : Bool) (t w : List ℕ) where
     poll_others_have = turn_others_have _ turn_deed
 
 -- two answers that tell the same are equal, and so are any two outcomes of a poll turn
-pub turn_told_one : (a b : Turned) → turn_told a ≡ turn_told b → a ≡ b
+pub turn_told_one : (a b : Result Turned Refusal) → turn_told a ≡ turn_told b → a ≡ b
 unfolding turn_told
-turn_told_one (Refused j) (Refused k) e = let number : j ≡ k = cc in ap Refused number
-turn_told_one (Refused j) (Turn due out) e = absurd (no_answer e)
-turn_told_one (Turn due out) (Refused k) e = absurd (no_answer (sym e))
-turn_told_one (Turn due out) (Turn due' out') e =
-    let same_due : due ≡ due' = cc in
-    let same_out : out ≡ out' = cc in
-    ap₂ Turn same_due same_out
+turn_told_one (Err j) (Err k) e = let same : number j ≡ number k = cc in ap Err (number_one j k same)
+turn_told_one (Err j) (Ok b) e = absurd (no_answer e)
+turn_told_one (Ok a) (Err k) e = absurd (no_answer (sym e))
+turn_told_one (Ok a) (Ok b) e =
+    let due : a.due ≡ b.due = cc in
+    let out : a.out ≡ b.out = cc in
+    let same : a ≡ b = λ i. record { due = due i; out = out i } in
+    ap Ok same
 
-pub polls_one : {A : Type 0} {e : Effect A} {r r' : Turned} {t₁ t₂ : List ℕ} {w₁ w₂ : A} → Does e (turn_told r) t₁ w₁ → Does e (turn_told r') t₂ w₂ → (r ≡ r') × (t₁ ≡ t₂) × (w₁ ≡ w₂)
+pub polls_one : {A : Type 0} {e : Effect A} {r r' : Result Turned Refusal} {t₁ t₂ : List ℕ} {w₁ w₂ : A} → Does e (turn_told r) t₁ w₁ → Does e (turn_told r') t₂ w₂
+    → (r ≡ r') × (t₁ ≡ t₂) × (w₁ ≡ w₂)
 polls_one a b = let one = does_one a b in (turn_told_one _ _ one.0, one.1, one.2)
 
--- a refused turn: the tables are what they were, and nothing is answered
-pub refused_turn_untouched : {A : Type 0} (k : ℕ) (t : List ℕ) (w : A) (done : Effect A) (r : Turned) (t' : List ℕ) (w' : A) → Does (unless k t w done) (turn_told r) t' w' → (k ≡ 0 → ⊥)
-    → (r ≡ Refused k) × (t' ≡ t) × (w' ≡ w)
+-- what tells a refusal is one with its number
+refusal_told_in : (r : Result Turned Refusal) (k : ℕ) → turn_told r ≡ refuses k → refusal_in r ≡ k
 unfolding turn_told
-refused_turn_untouched k t w done r t' w' a ne = let u = refused_does k t w done ne a in (turn_told_one r (Refused k) u.0, u.1, u.2)
+refusal_told_in (Ok a) k e = absurd (no_answer (sym e))
+refusal_told_in (Err q) k e = cc
+
+-- a refused turn: the tables are what they were, and nothing is answered
+pub refused_turn_untouched : {A : Type 0} (k : ℕ) (t : List ℕ) (w : A) (done : Effect A) (r : Result Turned Refusal) (t' : List ℕ) (w' : A) → Does (unless k t w done) (turn_told r) t' w' → (k ≡ 0 → ⊥)
+    → (refusal_in r ≡ k) × (t' ≡ t) × (w' ≡ w)
+refused_turn_untouched k t w done r t' w' a ne = let u = refused_does k t w done ne a in (refusal_told_in r k u.0, u.1, u.2)

@@ -7,11 +7,14 @@ use mathlib.Core.List.{List}
 use lib.Dec.{eqb}
 use borrow.Author.Tests.{eqb-false, not-false}
 use Rattle.rows.proofs.BoolLaws.{both, or_rest}
+use Rattle.std.specs.Prelude.{Err}
+use Rattle.refusals.specs.declared.Refusal.{Refusal}
+use Rattle.refusals.specs.Refusals.{number}
+use Rattle.refusals.proofs.OutcomeLaws.{number_never_0}
 use Rattle.who.specs.Good.{good_counts, numbers}
 use Rattle.who.specs.Logins.{logged_in}
 use Rattle.who.proofs.RecordLaws.{station_counts}
 use Rattle.who.proofs.WhoLaws.{good_is, logged_below}
-use Rattle.master.specs.declared.Turned.TheVariants.{Refused}
 use Rattle.master.specs.Tables.{good_tables}
 use Rattle.master.specs.Refusals.{ANYBODY, unknown}
 use Rattle.master.proofs.TableLaws.{records_good}
@@ -58,9 +61,9 @@ module _ (good : Bool) (inside : ℕ → Bool) (n : ℕ) where
 
 module _ (n : ℕ) (heard : Bool) (t w : List ℕ) where
   -- a refused turn, by its number
-  pub polls_refused : (k : ℕ) → poll_refusal n heard t w ≡ k → (k ≡ 0 → ⊥) → Polls n heard t w (Refused k) t w
+  pub polls_refused : (r : Refusal) → poll_refusal n heard t w ≡ number r → Polls n heard t w (Err r) t w
   unfolding poll_effect turn_told
-  polls_refused k e ne = rw e (refusing k t w _ ne)
+  polls_refused r e = rw e (refusing (number r) t w _ (number_never_0 r))
 
   pub poll_bad_tables : good_tables t w ≡ false → poll_refusal n heard t w ≡ 11
   unfolding poll_refusal turn_refusal

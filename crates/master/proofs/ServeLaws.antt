@@ -9,6 +9,7 @@ use lib.Dec.{eqb}
 use lib.ListN.{get_or}
 use borrow.Author.Tests.{eqb-true, ne_eqb}
 use Rattle.rows.proofs.BoolLaws.{by_test, by_eq, or_rest}
+use Rattle.std.specs.Prelude.{Result, Err}
 use Rattle.frames.specs.declared.Command.TheVariants.{Read, Write}
 use Rattle.frames.specs.Table.{READ, WRITE, carries_address}
 use Rattle.frames.specs.Requests.{plain}
@@ -17,8 +18,12 @@ use Rattle.site.specs.Rules.{good_site}
 use Rattle.site.specs.Places.{placed_in}
 use Rattle.site.specs.Faults.{first_fault}
 use Rattle.site.proofs.PlaceLaws.{placed_low}
+use Rattle.refusals.specs.declared.Refusal.{Refusal}
+use Rattle.refusals.specs.Refusals.{number}
+use Rattle.refusals.proofs.OutcomeLaws.{number_never_0}
+use Rattle.site.specs.declared.Refused.{Refused}
+use Rattle.site.specs.declared.Refused.TheVariants.{Site, By}
 use Rattle.master.specs.declared.Answer.{Answer}
-use Rattle.master.specs.declared.Answer.TheVariants.{Refused, Faulty}
 use Rattle.master.specs.Tables.{good_tables}
 use Rattle.master.specs.Answers.{refuses, fault_told, told}
 use Rattle.master.specs.Refusals.{place_refusal, frame_tests, frame_refusal, refusal}
@@ -37,11 +42,11 @@ address_command f y = by_eq (code f) READ
 
 module _ (n : ℕ) (f s t w : List ℕ) where
   -- a refused frame, by its number; a bad site file, with its fault
-  pub serves_refused : (k : ℕ) → refusal n f s t w ≡ k → (k ≡ 0 → ⊥) → (k ≡ 10 → ⊥) → Serves n f s t w (Refused k) t w
+  pub serves_refused : (r : Refusal) → refusal n f s t w ≡ number r → (number r ≡ 10 → ⊥) → Serves n f s t w (Err (By r)) t w
   unfolding frame_effect refusal_told told
-  serves_refused k e ne no-site = rw (e, ne_eqb k 10 no-site) (refusing_so k (refuses k) t w _ ne)
+  serves_refused r e no-site = rw (e, ne_eqb (number r) 10 no-site) (refusing_so (number r) (refuses (number r)) t w _ (number_never_0 r))
 
-  pub serves_faulty : refusal n f s t w ≡ 10 → Serves n f s t w (Faulty (first_fault s)) t w
+  pub serves_faulty : refusal n f s t w ≡ 10 → Serves n f s t w (Err (Site (first_fault s))) t w
   unfolding frame_effect refusal_told told
   serves_faulty e = rw e (refusing_so 10 (fault_told (first_fault s)) t w (request_effect (request_in f) n s t w) (λ z. omega arith))
 
@@ -92,5 +97,5 @@ module _ (n : ℕ) (f s t w : List ℕ) where
             rw (some, ne_eqb (placed_in s (address_in f)).refusal 0 ne, ne_eqb (placed_in s (address_in f)).refusal 10 (λ e. omega (arith, placed_low s (address_in f)))) (refused_place y (placed_in s (address_in f)).refusal refl ne)))
             (λ no_address. let none : refusal n f s t w ≡ 0 = last ∙ rw no_address in rw none)
 
-        pub serves_done : (r : Answer) (t' w' : List ℕ) → Performs (request_in f) n s t w r t' w' → Serves n f s t w r t' w'
+        pub serves_done : (r : Result Answer Refused) (t' w' : List ℕ) → Performs (request_in f) n s t w r t' w' → Serves n f s t w r t' w'
         serves_done r t' w' p = rw same_effect p

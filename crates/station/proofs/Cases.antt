@@ -1,25 +1,30 @@
 -- The cases of asking, sending and taking a reply, one law each: what the tests say, and what is answered and left.
 use Prim.Native.Nat.{ℕ, ◌≤◌, ◌<◌}
 use native.Mathlib.Omega.{arith}
-use mathlib.Core.Path.{◌≡◌, refl, sym, ap, ◌∙◌}
-use mathlib.Core.Bool.{Bool, true, false, cond, not, ◌&&◌}
+use mathlib.Core.Path.{◌≡◌, refl, sym, ◌∙◌}
+use mathlib.Core.Bool.{Bool, true, false, cond, not, ◌&&◌, and-false}
 use mathlib.Core.List.{List, [], ◌++◌}
 use lib.Dec.{eqb, ltb}
 use lib.ListN.{length}
-use borrow.Author.Tests.{ne_eqb, le-leb, lt-leb, leb-false, le-ltb}
-use Rattle.rows.specs.Outcomes.{Leaves}
-use Rattle.rows.proofs.BoolLaws.{by_test, both}
+use borrow.Author.Tests.{ne_eqb, le-leb, lt-leb, leb-false, le-ltb, not-true, not-false}
+use Rattle.std.specs.Prelude.{Result, Ok, Err}
+use Rattle.refusals.specs.declared.Refusal.{Refusal}
+use Rattle.refusals.specs.declared.Refusal.TheVariants.{BadTables}
+use Rattle.refusals.specs.Outcomes.{LeavesUnless}
+use Rattle.rows.proofs.BoolLaws.{by_test, both, and_left, and_right}
 use Rattle.terms.specs.Strings.{legal}
-use Rattle.frames.specs.Table.{CLEAR}
+use Rattle.terms.specs.declared.Status.{Status}
+use Rattle.terms.specs.declared.Status.TheVariants.{Granted, NotYours, HeldByAnother, AlreadyYours, NoRoom}
+use Rattle.terms.specs.Statuses.{byte_of}
+use Rattle.frames.specs.Table.{LOCK, UNLOCK, CLEAR, frame_length}
 use Rattle.frames.specs.declared.Request.{Request}
-use Rattle.frames.specs.declared.Written.{Written}
 use Rattle.frames.specs.Writing.{frame_of, written_of}
 use Rattle.frames.specs.Writing
-use Rattle.station.specs.declared.Sent.{Sent}
 use Rattle.station.specs.State.{list_of, wait_of, place_count, listed, is_full, added, code_in, asked_in, nothing}
 use Rattle.station.specs.Good.{good_state}
-use Rattle.station.specs.Asks.{waits, ask_refusal, Asks, frame_awaited, send_refusal, sent_of, buffer_after}
+use Rattle.station.specs.Asks.{waits, ask_refusal, Asks, frame_awaited, send_refusal, sent_of, buffer_after, Sends}
 use Rattle.station.proofs.StateLaws.{state_is, wait_long}
+use Rattle.station.proofs.WaitLaws.{no_request}
 use Rattle.station.specs.Replies.{fits, grants, carries_length, adds, reply_refusal, after_reply, Replies}
 
 -- an ask: refused, or done
@@ -68,6 +73,32 @@ module _ (st : List ℕ) (b : ℕ) where
         unfolding reply_refusal is_full after_reply
         reply_adds a n = let room = lt-leb (place_count (list_of st)) (listed (list_of st)) n in record { answer = rw (g, f, h, a, room); left = rw (g, f, h, a, room) }
 
+-- a reply that is listed and grants no illegal length; where one of these fails, 15
+abbrev pub is_fit : List ℕ → ℕ → Bool
+is_fit st b = fits (code_in (wait_of st)) b && not (grants b && (carries_length (code_in (wait_of st)) && not (legal (asked_in (wait_of st)))))
+
+module _ (st : List ℕ) (b : ℕ) where
+  pub reply_unfit : good_state st ≡ true → is_fit st b ≡ false → Replies st b 15 st
+  reply_unfit g n = by_test (fits (code_in (wait_of st)) b)
+      (λ y. reply_bad_grant st b g y (not-false _ (rw y at n)))
+      (reply_unlisted st b g)
+
+  pub fit_is : is_fit st b ≡ true → (fits (code_in (wait_of st)) b ≡ true) × ((grants b && (carries_length (code_in (wait_of st)) && not (legal (asked_in (wait_of st))))) ≡ false)
+  fit_is y =
+      let bad = grants b && (carries_length (code_in (wait_of st)) && not (legal (asked_in (wait_of st)))) in
+      (and_left (fits (code_in (wait_of st)) b) (not bad) y, not-true bad (and_right (fits (code_in (wait_of st)) b) (not bad) y))
+
+-- a byte that is no code, or no status, fits nothing
+pub fits_no_code : (k b : ℕ) → frame_length k ≡ 0 → fits k b ≡ false
+unfolding fits
+fits_no_code k b none = let n = no_request k none in rw (ne_eqb _ _ n.0, ne_eqb _ _ n.1, ne_eqb _ _ n.2)
+
+pub fits_no_status : (k b : ℕ) → ((s : Status) → byte_of s ≡ b → ⊥) → fits k b ≡ false
+unfolding fits
+fits_no_status k b none =
+    let other : (s : Status) → eqb b (byte_of s) ≡ false = λ s. ne_eqb b (byte_of s) (λ e. none s (sym e)) in
+    rw (other Granted, other AlreadyYours, other HeldByAnother, other NotYours, other NoRoom) (by_test (eqb k LOCK) (λ y. rw y) (λ m. rw m (by_test (eqb k UNLOCK) (λ y. rw y) (λ n. rw n (and-false (eqb k CLEAR))))))
+
 -- a reply that is not refused: it is listed for the request, the length of a string that it grants is legal, and a new one has room
 pub record Taken (st : List ℕ) (b : ℕ) : Type 0 where
   pub good : good_state st ≡ true
@@ -100,31 +131,28 @@ module _ (st : List ℕ) (b : ℕ) where
 
 -- sending: the state is bad, nothing is awaited, or the frame of a request is written
 module _ (st b : List ℕ) where
-  abbrev pub Sends : Sent → List ℕ → Type 0
-  Sends r b' = Leaves (sent_of st (length b)) (buffer_after st b) r b'
-
-  pub send_bad_state : good_state st ≡ false → Sends (record { refusal = 11; length = 0 }) b
+  pub send_bad_state : good_state st ≡ false → Sends st b (Err BadTables) b
   unfolding sent_of buffer_after send_refusal
   send_bad_state g = record { answer = rw g; left = rw g }
 
-  pub send_none : good_state st ≡ true → code_in (wait_of st) ≡ 0 → Sends (record { refusal = 0; length = 0 }) b
+  pub send_none : good_state st ≡ true → code_in (wait_of st) ≡ 0 → Sends st b (Ok 0) b
   unfolding sent_of buffer_after send_refusal
   send_none g z =
       let none = no_frame z in
       let room = le-ltb (length b) 0 (omega arith) in
-      record { answer = rw (g, none, room); left = rw (g, none, room) }
+      record { answer = rw (g, none, room) (refl, refl); left = rw (g, none, room) }
     where
       no_frame : code_in (wait_of st) ≡ 0 → frame_awaited (wait_of st) ≡ []
       no_frame z = unfold frame_awaited in rw z
 
-  pub send_frame : good_state st ≡ true → (q : Request) → frame_of q ≡ frame_awaited (wait_of st) → {w : Written} {b' : List ℕ}
-      → Leaves (written_of q (length b)) (Writing.buffer_after q b) w b' → Sends (record { refusal = w.refusal; length = w.length }) b'
+  pub send_frame : good_state st ≡ true → (q : Request) → frame_of q ≡ frame_awaited (wait_of st) → {r : Result ℕ Refusal} {b' : List ℕ}
+      → LeavesUnless (written_of q (length b)).refusal (written_of q (length b)).length (Writing.buffer_after q b) r b' → Sends st b r b'
   unfolding sent_of buffer_after send_refusal written_of Writing.buffer_after
-  send_frame g q e {w} {b'} done =
-      let same = ap {B = Sent} (λ (x : Written). record { refusal = x.refusal; length = x.length }) done.answer in
-      by_test (ltb (length b) (length (frame_of q)))
-      (λ y. record { answer = same ∙ rw (g, ← e, y); left = done.left ∙ rw (g, ← e, y) })
-      (λ n. record { answer = same ∙ rw (g, ← e, n); left = done.left ∙ rw (g, ← e, n) })
+  send_frame g q e {r} {b'} done =
+      let n = length (frame_of q) in
+      by_test (ltb (length b) n)
+      (λ y. let short = rw y at done in rw (g, ← e, y) short)
+      (λ m. let room = rw m at done in rw (g, ← e, m) room)
 
 -- a frame sent has at most 15 bytes
 frame_short : (v : List ℕ) → length v ≡ 15 → length (frame_awaited v) ≤ 15

@@ -1,23 +1,48 @@
 -- The laws of one place of the list.
-use Prim.Native.Nat.{ℕ, ◌+◌, ◌-◌}
+use Prim.Native.Nat.{ℕ, suc, ◌+◌, ◌-◌, ◌<◌, ◌≤◌}
 use native.Mathlib.Omega.{arith}
 use mathlib.Core.Path.{◌≡◌, refl, sym, ap, ◌∙◌}
 use mathlib.Core.Bool.{true, false}
-use mathlib.Core.List.{List}
+use mathlib.Core.List.{List, [], ◌∷◌}
 use lib.Dec.{eqb}
-use lib.ListN.{length, take, replicate, length-replicate}
+use lib.ListN.{length, get_or, take, drop, replicate, length-replicate, length-drop}
 use lib.Seq.{take_all, drop-drop}
-use borrow.Author.Tests.{ne_eqb}
+use borrow.Author.Tests.{ne_eqb, le-leb, lt-leb}
 use Rattle.rows.specs.Words.{all, zeros, zero_at}
 use Rattle.rows.specs.Rows.{part, row}
-use Rattle.rows.proofs.BoolLaws.{and_left, and_right}
-use Rattle.rows.proofs.BuildLaws.{is_zeros}
+use Rattle.rows.proofs.BoolLaws.{by_eq, iff, and_left, and_right}
+use Rattle.rows.proofs.BuildLaws.{zeros_is, is_zeros}
+use Rattle.rows.proofs.IndexLaws.{all_breaks}
 use Rattle.terms.specs.declared.LockString.{LockString}
 use Rattle.terms.specs.Strings.{string_at, string_bytes, legal, normal}
 use Rattle.terms.specs.Tables.{is_free, string_in, row_in, row_free}
 use Rattle.terms.proofs.StringLaws.{legal_len, legal_same, length_normal, normal_is_same, normal_rest, string_normal}
 use Rattle.station.specs.State.{place_string, unused}
 use Rattle.station.specs.Good.{good_place}
+
+-- a list that begins with zero holds zeros alone just where the rest does
+pub zeros_rest : (r : List ℕ) → 0 < length r → get_or r 0 0 ≡ 0 → zeros (drop 1 r) ≡ zeros r
+zeros_rest [] some z = absurd (omega arith)
+zeros_rest (x ∷ t) some z = iff (zeros t) (zeros (x ∷ t))
+    (λ y. let e : x ∷ t ≡ replicate (suc (length t)) 0 = ap (λ (k : ℕ). k ∷ t) z ∙ ap (λ (l : List ℕ). 0 ∷ l) (zeros_is t y) in ap zeros e ∙ is_zeros (suc (length t)))
+    (λ y. let e : t ≡ replicate (length t) 0 = ap (drop 1) (zeros_is (x ∷ t) y) in ap zeros e ∙ is_zeros (length t))
+
+pub zeros_not : (r : List ℕ) → 0 < length r → (get_or r 0 0 ≡ 0 → ⊥) → zeros r ≡ false
+unfolding zeros zero_at
+zeros_not r some nz = all_breaks (zero_at r) (length r) 0 some (ne_eqb _ _ nz)
+
+-- a place by what stands behind its string: that is what stands behind the length where there is none
+pub place_by_rest : (r : List ℕ) → length r ≡ 14 → get_or r 0 0 ≤ 13 → zeros (drop (1 + get_or r 0 0) r) ≡ good_place r
+unfolding good_place is_free string_in legal string_at part
+place_by_rest r long short = by_eq (get_or r 0 0) 0
+    (λ z. rw z (zeros_rest r (omega arith) z))
+    (λ ne.
+    let used : 1 ≤ get_or r 0 0 = omega arith in
+    rw (ne_eqb _ _ ne, le-leb 1 _ used, le-leb _ 13 short) (ap zeros (sym (take_all (13 - get_or r 0 0) (drop (1 + get_or r 0 0) r) (omega (arith, length-drop (1 + get_or r 0 0) r))))))
+
+pub place_too_long : (r : List ℕ) → 13 < get_or r 0 0 → good_place r ≡ false
+unfolding good_place is_free string_in legal string_at
+place_too_long r long = let used : 1 ≤ get_or r 0 0 = omega arith in rw (ne_eqb (get_or r 0 0) 0 (λ e. omega arith), le-leb 1 _ used, lt-leb _ 13 long)
 
 -- the place of zeros is good
 pub zeros_good : good_place (replicate 14 0) ≡ true

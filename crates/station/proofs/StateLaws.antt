@@ -1,12 +1,12 @@
 -- A station's state: its two parts, its lengths, and its rules as facts.
-use Prim.Native.Nat.{ℕ, ◌-◌, ◌≤◌}
+use Prim.Native.Nat.{ℕ, ◌-◌, ◌/◌, ◌≤◌}
 use native.Mathlib.Nat.{add-zero}
 use native.Mathlib.Omega.{arith}
 use mathlib.Core.Path.{◌≡◌, ap, ◌∙◌}
 use mathlib.Core.Bool.{true, ◌&&◌}
 use mathlib.Core.List.{List, ◌++◌}
 use lib.Dec.{eqb}
-use lib.ListN.{length, get_or, length-append, length-drop}
+use lib.ListN.{length, get_or, take, drop, length-append, length-drop}
 use lib.Seq.{length-take-le, get_or-drop, take_at, drop_at}
 use borrow.Author.Tests.{eqb-true, eq-eqb}
 use Rattle.rows.proofs.BoolLaws.{and_left, and_right}
@@ -64,3 +64,23 @@ is_state st g = rw (eq-eqb _ _ g.sized, g.list, g.wait)
 -- it holds a frame awaited
 pub state_fits : (st : List ℕ) → good_state st ≡ true → 15 ≤ length st
 state_fits st h = omega (arith, (state_is st h).sized)
+
+-- its code, and its two parts, stand where the length says
+pub good_code : (st : List ℕ) → good_state st ≡ true → code_in (wait_of st) ≡ get_or st 896 0
+good_code st h = code_at st ∙ ap (λ (k : ℕ). get_or st k 0) (omega (arith, (state_is st h).sized))
+
+module _ (st : List ℕ) (sized : length st ≡ state_length) where
+  pub list_front : take 896 st ≡ list_of st
+  unfolding list_of
+  list_front = let e : 896 ≡ length st - 15 = omega (arith, sized) in ap (λ (k : ℕ). take k st) e
+
+  pub wait_back : drop 896 st ≡ wait_of st
+  unfolding wait_of
+  wait_back = let e : 896 ≡ length st - 15 = omega (arith, sized) in ap (λ (k : ℕ). drop k st) e
+
+  -- so it keeps the rules just where both do
+  pub good_parts : (l v : List ℕ) → l ≡ take 896 st → v ≡ drop 896 st → good_state st ≡ (good_list (length l / 14) l && good_wait v)
+  unfolding good_state
+  good_parts l v e f =
+      let places : length l / 14 ≡ limit = rw e (ap (λ (k : ℕ). k / 14) (length-take-le 896 st (omega (arith, sized)))) in
+      rw (eq-eqb _ _ sized, places, e, f, list_front, wait_back)

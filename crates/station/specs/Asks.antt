@@ -61,7 +61,11 @@ command_for code = cond (eqb code LOCK) Lock (cond (eqb code UNLOCK) Unlock Clea
 
 -- the command whose frame is awaited
 unfoldable pub command_in : List ℕ → Option Command
-command_in v = cond (eqb (code_in v) 0) None (Some (command_for (code_in v)))
+command_in v =
+    cond (eqb (code_in v) LOCK) (Some Lock)
+    (cond (eqb (code_in v) UNLOCK) (Some Unlock)
+    (cond (eqb (code_in v) CLEAR) (Some Clear)
+    None))
 
 -- the frame awaited: its code and its fields
 unfoldable pub frame_awaited : List ℕ → List ℕ

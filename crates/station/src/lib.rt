@@ -37,10 +37,7 @@ pub fn is_good(state: &[u8]) -> bool
         return false;
     }
     let (list, wait) = state.split_at(LIST);
-    rules::places_good(list)
-        && rules::used_first(list)
-        && list::strings(list).rows_alone()
-        && rules::wait_good(wait)
+    rules::list_good(list) && rules::wait_good(wait)
 }
 
 // Empties the list and awaits nothing: 11 for another size.
@@ -93,8 +90,13 @@ pub fn ask_clear(state: &mut [u8]) -> Result<(), Refusal>
     ensures { Asks state.old (after_clear state.old) (refusal_in result) state.new }
 {
     may_ask(state)?;
-    state.fill(0);
-    state[LIST] = u8::from(Code::Clear);
+    let (list, wait) = state.split_at_mut(LIST);
+    let no_string = LockString {
+        len: 0,
+        bytes: [0; 13],
+    };
+    list.fill(0);
+    wait::begin(wait, Code::Clear, no_string);
     Ok(())
 }
 
@@ -117,6 +119,7 @@ pub fn send(state: &[u8], buffer: &mut [u8]) -> Result<usize, Refusal>
 }
 
 // The reply is listed for the request.
+#[tactic(auto, unfolding(crate::specs::Replies::fits))]
 fn is_listed_reply(code: Code, status: Status) -> bool
     ensures { result ≡ fits (code_byte code) (byte_of status) }
 {
@@ -129,6 +132,7 @@ fn is_listed_reply(code: Code, status: Status) -> bool
 }
 
 // It is done.
+#[tactic(auto, unfolding(crate::specs::Replies::grants))]
 fn is_grant(status: Status) -> bool
     ensures { result ≡ grants (byte_of status) }
 {
@@ -136,17 +140,32 @@ fn is_grant(status: Status) -> bool
 }
 
 // 00 or 81 for an illegal length.
+#[tactic(auto, unfolding(crate::specs::Replies::carries_length))]
 fn is_bad_grant(code: Code, s: LockString, status: Status) -> bool
     ensures { result ≡ grants (byte_of status) && (carries_length (code_byte code) && not (legal s)) }
 {
-    is_grant(status) && matches!(code, Code::Lock | Code::Unlock) && !terms::is_legal(s)
+    match code {
+        Code::Lock | Code::Unlock => is_grant(status) && !terms::is_legal(s),
+        _ => false,
+    }
+}
+
+// The reply is listed, and grants no illegal length.
+fn is_fit(code: Code, s: LockString, status: Status) -> bool
+    ensures { result ≡ fits (code_byte code) (byte_of status) && not (grants (byte_of status) && (carries_length (code_byte code) && not (legal s))) }
+{
+    is_listed_reply(code, status) && !is_bad_grant(code, s, status)
 }
 
 // The reply adds the string to the list.
+#[tactic(auto, using(rows::proofs::OutcomeLaws::finds_some), unfolding(crate::specs::State::is_listed, crate::specs::State::place_of))]
 fn is_new(list: &[u8], code: Code, s: LockString, status: Status) -> bool
     ensures { result ≡ eqb (code_byte code) LOCK && (grants (byte_of status) && not (is_listed list.now s)) }
 {
-    matches!(code, Code::Lock) && is_grant(status) && list::find(list, s).is_none()
+    match code {
+        Code::Lock => is_grant(status) && list::find(list, s).is_none(),
+        _ => false,
+    }
 }
 
 // Takes a reply to the frame awaited: 11, 15.
@@ -157,15 +176,20 @@ pub fn take_reply(state: &mut [u8], reply: u8) -> Result<(), Refusal>
         return Err(Refusal::BadTables);
     }
     let (list, wait) = state.split_at_mut(LIST);
-    let (Ok(code), Ok(status)) = (Code::try_from(wait[0]), Status::try_from(reply)) else {
+    let Ok(code) = Code::try_from(wait[0]) else {
+        return Err(Refusal::UnfitReply);
+    };
+    let Ok(status) = Status::try_from(reply) else {
         return Err(Refusal::UnfitReply);
     };
     let s = wait::string(wait);
-    if !is_listed_reply(code, status) || is_bad_grant(code, s, status) {
+    if !is_fit(code, s, status) {
         return Err(Refusal::UnfitReply);
     }
     if is_new(list, code, s, status) {
-        let at = list::first_unused(list).ok_or(Refusal::UnfitReply)?;
+        let Some(at) = list::first_unused(list) else {
+            return Err(Refusal::UnfitReply);
+        };
         list::put(list, at, s);
     }
     wait.fill(0);

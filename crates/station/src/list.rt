@@ -37,6 +37,7 @@ pub fn is_unused(list: &[u8], i: usize) -> bool
 }
 
 // The place that holds s.
+#[tactic(auto, unfolding(crate::specs::State::place_of))]
 pub fn find(list: &[u8], s: LockString) -> Option<usize>
     ensures { Finds (place_count list.now) (place_of list.now s) result }
 {
@@ -44,6 +45,7 @@ pub fn find(list: &[u8], s: LockString) -> Option<usize>
 }
 
 // The first unused place: how many strings are listed.
+#[tactic(auto, using(rows::proofs::IndexLaws::search_on, rows::proofs::IndexLaws::search_hit, rows::proofs::IndexLaws::search_ends), unfolding(rows::specs::Words::any, crate::specs::State::listed))]
 pub fn first_unused(list: &[u8]) -> Option<usize>
     ensures { Finds (place_count list.now) (listed list.now) result }
 {
@@ -71,7 +73,7 @@ fn strike_at(list: &mut [u8], i: usize)
     let at = PLACE * i;
     let last = list.len() - PLACE;
     rows::slide(list, at + PLACE, at, last - at);
-    list[last..].fill(0);
+    rows::put(list, last, &[0; PLACE]);
 }
 
 // Strikes s from the list where it is legal and listed.

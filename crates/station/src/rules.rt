@@ -2,7 +2,7 @@
 ghost use Rattle.std.specs.Prelude.{◌≡◌, length};
 ghost use Rattle.rows.specs.Words.{all};
 ghost use Rattle.station.specs.State.{place_count};
-ghost use Rattle.station.specs.Good.{good_place, good_at, in_front, good_wait};
+ghost use Rattle.station.specs.Good.{good_place, good_at, in_front, good_list, good_wait};
 
 use crate::list;
 use frames::Code;
@@ -17,7 +17,8 @@ fn place_good(r: &[u8]) -> bool
 }
 
 // Each place keeps the rules by itself.
-pub fn places_good(list: &[u8]) -> bool
+#[tactic(auto, using(rows::proofs::IndexLaws::pass_on, rows::proofs::IndexLaws::pass_breaks, rows::proofs::IndexLaws::pass_ends), unfolding(rows::specs::Words::all, crate::specs::Good::good_at))]
+fn places_good(list: &[u8]) -> bool
     ensures { result ≡ all (good_at list.now) (place_count list.now) }
 {
     for i in 0..list.len() / list::PLACE {
@@ -29,11 +30,13 @@ pub fn places_good(list: &[u8]) -> bool
 }
 
 // No used place after an unused one.
-pub fn used_first(list: &[u8]) -> bool
+fn used_first(list: &[u8]) -> bool
     ensures { result ≡ all (in_front list.now) (place_count list.now) }
 {
-    let count = list.len() / list::PLACE;
-    for i in list::first_unused(list).unwrap_or(count)..count {
+    let Some(unused) = list::first_unused(list) else {
+        return true;
+    };
+    for i in unused..list.len() / list::PLACE {
         if !list::is_unused(list, i) {
             return false;
         }
@@ -41,7 +44,18 @@ pub fn used_first(list: &[u8]) -> bool
     true
 }
 
+// The places keep the rules, together too.
+pub fn list_good(list: &[u8]) -> bool
+    ensures { result ≡ good_list (place_count list.now) list.now }
+{
+    if !places_good(list) {
+        return false;
+    }
+    used_first(list) && list::strings(list).rows_alone()
+}
+
 // The 15 bytes awaited are a lock, an unlock, a clear with zeros after it, or zeros.
+#[tactic(auto, using(crate::proofs::WaitLaws::no_code, crate::proofs::WaitLaws::clear_code), unfolding(crate::specs::Good::good_wait, crate::specs::State::code_in))]
 pub fn wait_good(wait: &[u8]) -> bool
     requires { length wait.now ≡ 15 }
     ensures { result ≡ good_wait wait.now }

@@ -17,6 +17,7 @@ pub fn begin(wait: &mut [u8], code: Code, s: LockString)
 }
 
 // The string asked for, as it was asked.
+#[tactic(auto, unfolding(crate::specs::State::asked_in))]
 pub fn string(wait: &[u8]) -> LockString
     requires { length wait.now ≡ 15 }
     ensures { result ≡ asked_in wait.now }
@@ -25,14 +26,18 @@ pub fn string(wait: &[u8]) -> LockString
 }
 
 // The command whose frame is awaited.
+#[tactic(auto, using(crate::proofs::WaitLaws::no_command), unfolding(crate::specs::Asks::command_in, crate::specs::State::code_in))]
 pub fn command(wait: &[u8]) -> Option<Command>
     requires { length wait.now ≡ 15 }
     ensures { result ≡ command_in wait.now }
 {
-    match Code::try_from(wait[0]) {
-        Ok(Code::Lock) => Some(Command::Lock),
-        Ok(Code::Unlock) => Some(Command::Unlock),
-        Ok(Code::Clear) => Some(Command::Clear),
+    let Ok(code) = Code::try_from(wait[0]) else {
+        return None;
+    };
+    match code {
+        Code::Lock => Some(Command::Lock),
+        Code::Unlock => Some(Command::Unlock),
+        Code::Clear => Some(Command::Clear),
         _ => None,
     }
 }

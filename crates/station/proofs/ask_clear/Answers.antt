@@ -1,34 +1,27 @@
-use Prim.Native.Nat.{ℕ, ◌+◌, ◌-◌}
+use Prim.Native.Nat.{ℕ}
 use native.Mathlib.Omega.{arith}
-use mathlib.Core.Path.{◌≡◌, refl, sym, ap, ◌∙◌}
-use mathlib.Core.List.{List, [], ◌∷◌}
-use lib.ListN.{length, replicate, length-replicate, replicate-append-replicate}
-use Rattle.station.proofs.Cases.{askable, ask_refused, ask_done}
-use Rattle.station.proofs.StateLaws.{list_long, state_fits}
-use Rattle.rows.specs.Rows.{put}
-use Rattle.rows.proofs.RowLaws.{filled, put_behind}
-use Rattle.frames.specs.Table.{CLEAR}
-use Rattle.station.specs.Asks.{after_clear}
+use mathlib.Core.Path.{◌≡◌, sym, ap, ◌∙◌}
+use lib.ListN.{length, replicate}
+use Rattle.station.proofs.Cases.{askable, ask_done}
+use Rattle.station.proofs.StateLaws.{state_is, list_long}
+use Rattle.station.specs.Asks.{awaited, after_clear}
 use Rattle.station.specs.State.{list_of}
 use Rattle.station.proofs.ask_clear.Goals as goal
 
-pub returns-then-refusal-ne0 : goal.returns-then-refusal-ne0
-returns-then-refusal-ne0 c = ask_refused _ _ c.ask_refusal-refusal.ensures c.if-refusal-ne0.true
+pub split_at_mut-list-requires : goal.split_at_mut-list-requires
+split_at_mut-list-requires c = let st = c.args.state.now in omega (arith, (state_is st (askable st (sym c.in_ok-may_ask.ensures)).0).sized)
 
-pub overflow_sub-size : goal.overflow_sub-size
-overflow_sub-size c =
-    let st = c.args.state.now in
-    state_fits st (askable st (sym c.ask_refusal-refusal.ensures ∙ c.if-refusal-ne0.false)).0
-
-pub put-requires : goal.put-requires
-put-requires c = omega (arith, state_fits c.args.state.now (askable c.args.state.now (sym c.ask_refusal-refusal.ensures ∙ c.if-refusal-ne0.false)).0)
+pub begin-requires : goal.begin-requires
+begin-requires c = let st = c.args.state.now in
+    omega (arith, c.split_at_mut-list.ensures.back_len, (state_is st (askable st (sym c.in_ok-may_ask.ensures)).0).sized)
 
 pub returns : goal.returns
-unfolding after_clear
+unfolding after_clear awaited
 returns c =
     let st = c.args.state.now in
-    let n = length (list_of st) in
-    let g = ask_done st (after_clear st) (sym c.ask_refusal-refusal.ensures ∙ c.if-refusal-ne0.false) in
-    let whole : n + 15 ≡ length st = omega (arith, list_long st, state_fits c.args.state.now (askable c.args.state.now (sym c.ask_refusal-refusal.ensures ∙ c.if-refusal-ne0.false)).0) in
-    let empty = c.fill.ensures ∙ filled st (length st) 0 refl ∙ ap (λ (k : ℕ). replicate k 0) (sym whole) ∙ sym (replicate-append-replicate n 15 0) in
-    record { answer = g.answer; left = c.put.ensures ∙ ap (λ (l : List ℕ). put l (length st - 15) (CLEAR ∷ [])) empty ∙ put_behind (replicate n 0) (replicate 15 0) (CLEAR ∷ []) (length st - 15) (length-replicate {A = ℕ} n 0 ∙ list_long st) ∙ g.left }
+    let asked = sym c.in_ok-may_ask.ensures in
+    let sized = (state_is st (askable st asked).0).sized in
+    let g = ask_done st (after_clear st) asked in
+    let long : length c.split_at_mut-list.result.0.now ≡ length (list_of st) = omega (arith, c.split_at_mut-list.ensures.front_len, list_long st, sized) in
+    let empty : c.fill.new.self ≡ replicate (length (list_of st)) 0 = c.fill.ensures.after (λ y e. e) ∙ ap (λ (k : ℕ). replicate k 0) long in
+    record { answer = g.answer; left = rw (empty, c.begin.ensures) g.left }

@@ -1,7 +1,6 @@
 use mathlib.Core.Path.{sym, ◌∙◌}
 use borrow.Author.Tests.{eq-eqb, ne_eqb}
 use lib.ListN.{replicate-append-replicate}
-use Rattle.rows.proofs.RowLaws.{filled}
 use Rattle.station.specs.Asks.{fresh_state, fresh_refusal}
 use Rattle.station.proofs.fresh.Goals as goal
 
@@ -14,5 +13,5 @@ unfolding fresh_state fresh_refusal
 returns c = let sized = c.if-state-ne-BYTES.false in
     record {
       answer = rw (eq-eqb _ _ sized);
-      left = rw (eq-eqb _ _ sized) (c.fill.ensures ∙ filled c.args.state.now 911 0 sized ∙ sym (replicate-append-replicate 896 15 0));
+      left = rw (eq-eqb _ _ sized) (c.fill.ensures.after (λ y e. e) ∙ rw sized (sym (replicate-append-replicate 896 15 0)));
     }

@@ -1,44 +1,35 @@
-use mathlib.Core.Path.{◌≡◌, sym, subst, ◌∙◌}
-use Prim.Native.Nat.{◌<◌}
-use Rattle.station.specs.declared.Sent.{Sent}
-use mathlib.Core.Bool.{true}
-use Rattle.station.proofs.WaitLaws.{state_awaits, awaited_frame}
-use borrow.Author.Tests.{ne_eqb}
-use Rattle.station.specs.Asks.{waits}
-use Rattle.station.specs.Good.{good_state}
+use mathlib.Core.Path.{sym, ◌∙◌}
 use native.Mathlib.Omega.{arith}
-use Rattle.station.proofs.Cases.{send_bad_state, send_none, send_frame, sent_short}
-use Rattle.station.proofs.StateLaws.{code_at, state_fits}
+use Rattle.frames.specs.Requests.{plain}
+use Rattle.station.proofs.Cases.{send_bad_state, send_none, send_frame}
+use Rattle.station.proofs.StateLaws.{state_is, wait_back}
+use Rattle.station.proofs.WaitLaws.{state_wait, frame_none, frame_some}
 use Rattle.station.proofs.send.Goals as goal
 
 pub returns-then-not-is_good : goal.returns-then-not-is_good
 returns-then-not-is_good c = send_bad_state _ _ (sym c.is_good.ensures.answer ∙ c.if-not-is_good.true)
 
-pub overflow_sub-at : goal.overflow_sub-at
-overflow_sub-at c = state_fits c.args.state.now (sym c.is_good.ensures.answer ∙ c.if-not-is_good.false)
+pub split_at-requires : goal.split_at-requires
+split_at-requires c = omega (arith, (state_is c.args.state.now (sym c.is_good.ensures.answer ∙ c.if-not-is_good.false)).sized)
 
-pub bounds-state-at : goal.bounds-state-at
-bounds-state-at c = omega (arith, state_fits c.args.state.now (sym c.is_good.ensures.answer ∙ c.if-not-is_good.false))
+pub command-requires : goal.command-requires
+command-requires c = omega (arith, c.split_at.ensures.back_len, (state_is c.args.state.now (sym c.is_good.ensures.answer ∙ c.if-not-is_good.false)).sized)
 
-pub returns-then-code-eq0 : goal.returns-then-code-eq0
-returns-then-code-eq0 c = send_none _ _ (sym c.is_good.ensures.answer ∙ c.if-not-is_good.false) (code_at c.args.state.now ∙ c.if-code-eq0.true)
-
-pub asked-string-requires : goal.asked-string-requires
-asked-string-requires c = state_fits c.args.state.now (sym c.is_good.ensures.answer ∙ c.if-not-is_good.false)
-
-pub overflow_cast-result : goal.overflow_cast-result
-unfolding waits
-overflow_cast-result c =
+pub returns-in_default : goal.returns-in_default
+returns-in_default c =
     let st = c.args.state.now in
-    let good : good_state st ≡ true = sym c.is_good.ensures.answer ∙ c.if-not-is_good.false in
-    let waiting : waits st ≡ true = rw (ne_eqb _ _ (λ e. c.if-code-eq0.false (sym (code_at st) ∙ e))) in
-    let done = send_frame st c.args.buffer.now good _ (rw (c.command_of-command.ensures, ← code_at st, c.asked-string.ensures) (awaited_frame (state_awaits st good waiting))) c.write-written.ensures in
-    record { fits = subst (λ (s : Sent). s.length < 256) (sym done.answer) (sent_short _ _) }
+    let good = sym c.is_good.ensures.answer ∙ c.if-not-is_good.false in
+    let none = rw (c.split_at.ensures.back, wait_back st (state_is st good).sized) at c.in_default.ensures in
+    send_none _ _ good (frame_none (state_wait st good) none)
+
+pub string-requires : goal.string-requires
+string-requires c = omega (arith, c.split_at.ensures.back_len, (state_is c.args.state.now (sym c.is_good.ensures.answer ∙ c.if-not-is_good.false)).sized)
 
 pub returns : goal.returns
-unfolding waits
+unfolding plain
 returns c =
     let st = c.args.state.now in
-    let good : good_state st ≡ true = sym c.is_good.ensures.answer ∙ c.if-not-is_good.false in
-    let waiting : waits st ≡ true = rw (ne_eqb _ _ (λ e. c.if-code-eq0.false (sym (code_at st) ∙ e))) in
-    send_frame st c.args.buffer.now good _ (rw (c.command_of-command.ensures, ← code_at st, c.asked-string.ensures) (awaited_frame (state_awaits st good waiting))) c.write-written.ensures
+    let good = sym c.is_good.ensures.answer ∙ c.if-not-is_good.false in
+    let sized = (state_is st good).sized in
+    let some = rw (c.split_at.ensures.back, wait_back st sized) at c.in-Some.ensures in
+    send_frame st c.args.buffer.now good _ (rw (c.plain.ensures.answer, c.string.ensures, c.split_at.ensures.back, wait_back st sized) (frame_some (state_wait st good) some)) c.write.ensures

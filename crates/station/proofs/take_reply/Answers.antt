@@ -1,104 +1,111 @@
-use Prim.Native.Nat.{ℕ, ◌-◌, ◌/◌, ◌≤◌, ◌<◌}
-use mathlib.Core.Path.{◌≡◌, sym, ap, subst, ◌∙◌}
-use mathlib.Core.List.{List, ◌++◌}
-use mathlib.Core.Bool.{Bool, false, not, ◌&&◌, true}
-use lib.ListN.{length}
-use Rattle.station.proofs.StateLaws.{list_long, wait_long, list_of_lem, lent_long, code_at, state_fits}
-use Rattle.rows.specs.Words.{first}
-use Rattle.terms.specs.Strings.{legal}
-use Rattle.station.specs.Replies.{grants, carries_length, fits, adds}
-use Rattle.terms.specs.declared.LockString.{LockString}
-use Rattle.frames.specs.Table.{LOCK}
+use Prim.Native.Nat.{ℕ}
+use mathlib.Core.Path.{◌≡◌, refl, sym, ap, ◌∙◌}
+use mathlib.Core.List.{List, []}
+use mathlib.Core.Bool.{Bool, not, ◌&&◌}
 use lib.Dec.{eqb}
-use lib.ListN.{get_or}
-use Rattle.station.specs.State.{is_listed, list_of, wait_of, place_count, unused, listed, added, code_in, asked_in, nothing}
+use lib.ListN.{length, get_or, replicate}
 use native.Mathlib.Omega.{arith}
-use Rattle.station.proofs.Cases.{reply_bad_state, reply_unlisted, reply_bad_grant, reply_adds_none, reply_full, reply_adds}
+use Rattle.terms.specs.declared.Status.{Status}
+use Rattle.terms.specs.declared.LockString.{LockString}
+use Rattle.terms.specs.Statuses.{byte_of}
+use Rattle.terms.specs.Strings.{legal}
+use Rattle.frames.specs.declared.code.Code.{Code}
+use Rattle.frames.specs.Codes.{byte_of as code_byte}
+use Rattle.frames.specs.Table.{LOCK}
+use Rattle.station.specs.State.{is_listed, added, code_in, asked_in, nothing}
+use Rattle.station.specs.Replies.{grants, carries_length, fits, adds}
+use Rattle.station.proofs.StateLaws.{state_is, list_front, wait_back}
+use Rattle.station.proofs.Cases.{fit_is, fits_no_code, fits_no_status, reply_bad_state, reply_unlisted, reply_unfit, reply_adds_none, reply_full, reply_adds}
 use Rattle.station.proofs.take_reply.Goals as goal
+use Rattle.station.proofs.take_reply.Goals.{then-is_new+in-Some, else-is_new}
 
--- the places of a state's list
-places-are : (st : List ℕ) → (length st - 15) / 14 ≡ place_count (list_of st)
-places-are st = ap (λ (k : ℕ). k / 14) (sym (list_long st))
+-- what the code finds in the parts of a state is what the rules say of it
+code_found : (v : List ℕ) {k : ℕ} → get_or v 0 0 ≡ k → code_in v ≡ k
+unfolding code_in
+code_found v e = e
 
--- what the tests of the code say of the state
-said_fits : (st : List ℕ) (reply : ℕ) (b : Bool) → b ≡ fits (get_or st (length st - 15) 0) reply → b ≡ true → fits (code_in (wait_of st)) reply ≡ true
-said_fits st reply b e y = rw (code_at st) (sym e ∙ y)
+module _ (l v : List ℕ) (b : ℕ) (code : Code) (s : LockString) (status : Status) (e : get_or v 0 0 ≡ code_byte code) (f : byte_of status ≡ b) (g : s ≡ asked_in v) where
+  fit_found : {r : Bool} → r ≡ (fits (code_byte code) (byte_of status) && not (grants (byte_of status) && (carries_length (code_byte code) && not (legal s))))
+      → (fits (code_in v) b && not (grants b && (carries_length (code_in v) && not (legal (asked_in v))))) ≡ r
+  fit_found h = rw (code_found v e, ← f, ← g) (sym h)
 
-said_no_bad : (st : List ℕ) (reply : ℕ) (s : LockString) (b : Bool) → s ≡ asked_in (wait_of st) → b ≡ (grants reply && (carries_length (get_or st (length st - 15) 0) && not (legal s))) → b ≡ false
-    → (grants reply && (carries_length (code_in (wait_of st)) && not (legal (asked_in (wait_of st))))) ≡ false
-said_no_bad st reply s b asked e n = rw (code_at st, ← asked) (sym e ∙ n)
-
-said_adds : (st : List ℕ) (reply : ℕ) (s : LockString) (b : Bool) → s ≡ asked_in (wait_of st) → b ≡ (eqb (get_or st (length st - 15) 0) LOCK && (grants reply && not (is_listed (list_of st) s)))
-    → b ≡ adds (list_of st) (wait_of st) reply
-unfolding adds
-said_adds st reply s b asked e = rw (code_at st, ← asked) e
+  adds_found : {r : Bool} → r ≡ (eqb (code_byte code) LOCK && (grants (byte_of status) && not (is_listed l s))) → adds l v b ≡ r
+  unfolding adds
+  adds_found h = rw (code_found v e, ← f, ← g) (sym h)
 
 pub returns-then-not-is_good : goal.returns-then-not-is_good
 returns-then-not-is_good c = reply_bad_state _ _ (sym c.is_good.ensures.answer ∙ c.if-not-is_good.true)
 
-pub overflow_sub-end : goal.overflow_sub-end
-overflow_sub-end c = state_fits c.args.state.now (sym c.is_good.ensures.answer ∙ c.if-not-is_good.false)
+pub split_at_mut-list-requires : goal.split_at_mut-list-requires
+split_at_mut-list-requires c = omega (arith, (state_is c.args.state.now (sym c.is_good.ensures.answer ∙ c.if-not-is_good.false)).sized)
 
-pub bounds-state-end : goal.bounds-state-end
-bounds-state-end c = omega (arith, state_fits c.args.state.now (sym c.is_good.ensures.answer ∙ c.if-not-is_good.false))
+pub bounds-wait-0 : goal.bounds-wait-0
+bounds-wait-0 c = omega (arith, c.split_at_mut-list.ensures.back_len, (state_is c.args.state.now (sym c.is_good.ensures.answer ∙ c.if-not-is_good.false)).sized)
 
-pub returns-then-not-is_listed_reply : goal.returns-then-not-is_listed_reply
-returns-then-not-is_listed_reply c = reply_unlisted c.args.state.now c.args.reply (sym c.is_good.ensures.answer ∙ c.if-not-is_good.false) (rw (code_at c.args.state.now) (sym c.is_listed_reply.ensures ∙ c.if-not-is_listed_reply.true))
-
-pub asked-s-requires : goal.asked-s-requires
-asked-s-requires c = state_fits c.args.state.now (sym c.is_good.ensures.answer ∙ c.if-not-is_good.false)
-
-pub returns-then-is_bad_grant : goal.returns-then-is_bad_grant
-returns-then-is_bad_grant c = reply_bad_grant c.args.state.now c.args.reply (sym c.is_good.ensures.answer ∙ c.if-not-is_good.false) (said_fits c.args.state.now c.args.reply _ c.is_listed_reply.ensures c.if-not-is_listed_reply.false) (rw (code_at c.args.state.now, ← c.asked-s.ensures) (sym c.is_bad_grant.ensures ∙ c.if-is_bad_grant.true))
-
-pub slice_bounds-is_new-end-2 : goal.slice_bounds-is_new-end-2
-unfolding list_of
-slice_bounds-is_new-end-2 c = sym (list_long c.args.state.now)
-
-pub end_wait-requires : goal.end_wait-requires
-end_wait-requires c = state_fits c.args.state.now (sym c.is_good.ensures.answer ∙ c.if-not-is_good.false)
-
-pub returns-then-not-is_new : goal.returns-then-not-is_new
-unfolding list_of
-returns-then-not-is_new c = let g = reply_adds_none c.args.state.now c.args.reply (sym c.is_good.ensures.answer ∙ c.if-not-is_good.false) (said_fits c.args.state.now c.args.reply _ c.is_listed_reply.ensures c.if-not-is_listed_reply.false) (said_no_bad c.args.state.now c.args.reply _ _ c.asked-s.ensures c.is_bad_grant.ensures c.if-is_bad_grant.false) (sym (said_adds c.args.state.now c.args.reply _ _ c.asked-s.ensures c.is_new.ensures) ∙ c.if-not-is_new.true) in
-    record { answer = g.answer; left = c.end_wait.ensures ∙ g.left }
-
-pub slice_bounds-count-end-2 : goal.slice_bounds-count-end-2
-unfolding list_of
-slice_bounds-count-end-2 c = sym (list_long c.args.state.now)
-
-pub count-at-requires : goal.count-at-requires
-unfolding list_of
-count-at-requires c = omega (arith, list_long c.args.state.now)
-
-pub returns-then-n-at : goal.returns-then-n-at
-unfolding listed list_of
-returns-then-n-at c =
+pub returns-in_default : goal.returns-in_default
+returns-in_default c =
     let st = c.args.state.now in
-    let many = rw c.count-at.ensures at c.if-n-at.true in
-    reply_full c.args.state.now c.args.reply (sym c.is_good.ensures.answer ∙ c.if-not-is_good.false) (said_fits c.args.state.now c.args.reply _ c.is_listed_reply.ensures c.if-not-is_listed_reply.false) (said_no_bad c.args.state.now c.args.reply _ _ c.asked-s.ensures c.is_bad_grant.ensures c.if-is_bad_grant.false) (sym (said_adds c.args.state.now c.args.reply _ _ c.asked-s.ensures c.is_new.ensures) ∙ c.if-not-is_new.false) (subst (λ (n : ℕ). n ≤ first (unused (list_of st)) n) (places-are st) many)
+    let good = sym c.is_good.ensures.answer ∙ c.if-not-is_good.false in
+    let parts = c.split_at_mut-list.ensures in
+    let v = parts.back ∙ wait_back st (state_is st good).sized in
+    let g = reply_unlisted st c.args.reply good (fits_no_code _ _ (rw (← v, code_found c.split_at_mut-list.result.1.now refl) c.in_default.ensures.0)) in
+    record { answer = g.answer; left = sym parts.value ∙ g.left }
 
-pub slice_bounds-put-end-2 : goal.slice_bounds-put-end-2
-unfolding list_of
-slice_bounds-put-end-2 c = sym (list_long c.args.state.now)
-
-pub put-requires : goal.put-requires
-unfolding list_of
-put-requires c = omega (arith, list_long c.args.state.now)
-
-pub end_wait-requires-2 : goal.end_wait-requires-2
-unfolding list_of wait_of
-end_wait-requires-2 c =
+pub returns-in_default-try_from : goal.returns-in_default-try_from
+returns-in_default-try_from c =
     let st = c.args.state.now in
-    let fits : 15 ≤ length st = state_fits c.args.state.now (sym c.is_good.ensures.answer ∙ c.if-not-is_good.false) in
-    omega (arith, lent_long st c.put.new.list fits c.put.auto.list)
+    let good = sym c.is_good.ensures.answer ∙ c.if-not-is_good.false in
+    let g = reply_unlisted st c.args.reply good (fits_no_status _ _ c.in_default-try_from.ensures.1) in
+    record { answer = g.answer; left = sym c.split_at_mut-list.ensures.value ∙ g.left }
+
+pub string-s-requires : goal.string-s-requires
+string-s-requires c = omega (arith, c.split_at_mut-list.ensures.back_len, (state_is c.args.state.now (sym c.is_good.ensures.answer ∙ c.if-not-is_good.false)).sized)
+
+pub returns-then-not-is_fit : goal.returns-then-not-is_fit
+returns-then-not-is_fit c =
+    let st = c.args.state.now in
+    let good = sym c.is_good.ensures.answer ∙ c.if-not-is_good.false in
+    let parts = c.split_at_mut-list.ensures in
+    let v = parts.back ∙ wait_back st (state_is st good).sized in
+    let fit = fit_found [] _ c.args.reply _ _ _ c.in-Ok.ensures c.in-Ok-try_from.ensures c.string-s.ensures c.is_fit.ensures in
+    let g = reply_unfit st c.args.reply good (rw (← v) (fit ∙ c.if-not-is_fit.true)) in
+    record { answer = g.answer; left = sym parts.value ∙ g.left }
+
+pub returns-in_default-first_unused : goal.returns-in_default-first_unused
+returns-in_default-first_unused c =
+    let st = c.args.state.now in
+    let good = sym c.is_good.ensures.answer ∙ c.if-not-is_good.false in
+    let parts = c.split_at_mut-list.ensures in
+    let sized = (state_is st good).sized in
+    let l = parts.front ∙ list_front st sized in
+    let v = parts.back ∙ wait_back st sized in
+    let fit = fit_found [] _ c.args.reply _ _ _ c.in-Ok.ensures c.in-Ok-try_from.ensures c.string-s.ensures c.is_fit.ensures in
+    let is = fit_is st c.args.reply (rw (← v) (fit ∙ c.if-not-is_fit.false)) in
+    let new = adds_found _ _ c.args.reply _ _ _ c.in-Ok.ensures c.in-Ok-try_from.ensures c.string-s.ensures c.is_new.ensures in
+    let g = reply_full st c.args.reply good is.0 is.1 (rw (← l, ← v) (new ∙ c.if-is_new.true)) (rw (← l) (omega (arith, c.in_default-first_unused.ensures))) in
+    record { answer = g.answer; left = sym parts.value ∙ g.left }
 
 pub returns : goal.returns
-unfolding listed list_of wait_of added
+unfolding added
 returns c =
     let st = c.args.state.now in
-    let n = c.count-at.ensures ∙ ap (first (unused (list_of st))) (places-are st) in
-    let few : listed (list_of st) < place_count (list_of st) = subst (λ (k : ℕ). listed (list_of st) < k) (places-are st) (rw n at c.if-n-at.false) in
-    let more : c.put.new.list ≡ added (list_of st) (asked_in (wait_of st)) = c.put.ensures ∙ rw (n, c.asked-s.ensures) in
-    let g = reply_adds c.args.state.now c.args.reply (sym c.is_good.ensures.answer ∙ c.if-not-is_good.false) (said_fits c.args.state.now c.args.reply _ c.is_listed_reply.ensures c.if-not-is_listed_reply.false) (said_no_bad c.args.state.now c.args.reply _ _ c.asked-s.ensures c.is_bad_grant.ensures c.if-is_bad_grant.false) (sym (said_adds c.args.state.now c.args.reply _ _ c.asked-s.ensures c.is_new.ensures) ∙ c.if-not-is_new.false) few in
-    record { answer = g.answer; left = c.end_wait-2.ensures ∙ ap (λ (m : List ℕ). m ++ nothing) (list_of_lem c.put.new.list (wait_of st) (wait_long st (state_fits c.args.state.now (sym c.is_good.ensures.answer ∙ c.if-not-is_good.false))) ∙ more) ∙ g.left }
+    let good = sym c.is_good.ensures.answer ∙ c.if-not-is_good.false in
+    let parts = c.split_at_mut-list.ensures in
+    let sized = (state_is st good).sized in
+    let l = parts.front ∙ list_front st sized in
+    let v = parts.back ∙ wait_back st sized in
+    let fit = fit_found [] _ c.args.reply _ _ _ c.in-Ok.ensures c.in-Ok-try_from.ensures c.string-s.ensures c.is_fit.ensures in
+    let is = fit_is st c.args.reply (rw (← v) (fit ∙ c.if-not-is_fit.false)) in
+    let new = adds_found _ _ c.args.reply _ _ _ c.in-Ok.ensures c.in-Ok-try_from.ensures c.string-s.ensures c.is_new.ensures in
+    let asked = rw v at c.string-s.ensures in
+    let long : length c.split_at_mut-list.result.1.now ≡ 15 = omega (arith, parts.back_len, sized) in
+    let over : c.fill.new.self ≡ nothing = c.fill.ensures.after (λ y e. e) ∙ ap (λ (k : ℕ). replicate k 0) long in
+    elim c.if-is_new.branch [
+      | then-is_new+in-Some w ↦
+          let at = w.in-Some.ensures in
+          let g = reply_adds st c.args.reply good is.0 is.1 (rw (← l, ← v) (new ∙ w.if-is_new.true)) (rw (← l) (omega (arith, at.0, at.1))) in
+          record { answer = g.answer; left = rw (w.list-is, w.put.ensures, at.0, over, asked, l) g.left }
+      | else-is_new w ↦
+          let g = reply_adds_none st c.args.reply good is.0 is.1 (rw (← l, ← v) (new ∙ w.if-is_new.false)) in
+          record { answer = g.answer; left = rw (w.list-is, over, l) g.left }
+    ]

@@ -1,10 +1,6 @@
-use Prim.Native.Nat.{◌-◌}
 use Rattle.rows.proofs.IndexLaws.{Searching}
-use Rattle.station.specs.State.{unused}
-use Rattle.station.proofs.list.count.Given as goal
+use Rattle.station.specs.State.{place_count, unused}
+use Rattle.station.proofs.list.first_unused.Given as goal
 
 abbrev pub invariant-loop-i : goal.invariant-loop-i
-invariant-loop-i l = Searching (unused l.list) l.n l.i
-
-abbrev pub decreases-loop-i : goal.decreases-loop-i
-decreases-loop-i l = l.n - l.i
+invariant-loop-i l = Searching (unused l.list) (place_count l.list) l.i

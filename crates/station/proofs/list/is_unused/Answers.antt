@@ -1,7 +1,6 @@
 use Rattle.station.specs.State.{places}
 use Rattle.terms.proofs.TableLaws.{free_at_lem}
-use lib.Dec.{lit≤}
 use Rattle.station.proofs.list.is_unused.Goals as goal
 
 pub returns : goal.returns
-returns c = let a = c.args in free_at_lem places (lit≤ tt) a.list.now a.i
+returns c = let a = c.args in free_at_lem places a.list.now a.i

@@ -3,12 +3,9 @@ use native.Mathlib.Omega.{arith}
 use mathlib.Core.Path.{sym, ap, ◌∙◌}
 use lib.ListN.{length}
 use Rattle.rows.proofs.RowLaws.{length_part}
-use Rattle.rows.proofs.IndexLaws.{pass_starts, pass_on, pass_breaks, pass_ends}
+use Rattle.rows.proofs.IndexLaws.{pass_breaks}
 use Rattle.station.specs.Good.{good_place, good_at}
 use Rattle.station.proofs.rules.places_good.Goals as goal
-
-pub loop-i-init : goal.loop-i-init
-loop-i-init c = pass_starts _ _
 
 pub place_good-requires : goal.place_good-requires
 place_good-requires c = ap length c.part.ensures ∙ length_part c.args.list.now (14 * c.loop-i.i) 14 (omega arith)
@@ -16,10 +13,3 @@ place_good-requires c = ap length c.part.ensures ∙ length_part c.args.list.now
 pub returns-then-not-place_good : goal.returns-then-not-place_good
 unfolding good_at
 returns-then-not-place_good c = pass_breaks _ _ c.loop-i-test.true (ap good_place (sym c.part.ensures) ∙ sym c.place_good.ensures ∙ c.if-not-place_good.true)
-
-pub loop-i-preserved : goal.loop-i-preserved
-unfolding good_at
-loop-i-preserved c = pass_on _ _ c.loop-i.invariant c.loop-i-test.true (ap good_place (sym c.part.ensures) ∙ sym c.place_good.ensures ∙ c.if-not-place_good.false)
-
-pub returns : goal.returns
-returns c = pass_ends _ _ c.loop-i.invariant c.loop-i-test.false

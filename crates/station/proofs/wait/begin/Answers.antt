@@ -1,19 +1,19 @@
-use Rattle.station.specs.Asks.{awaited}
-use Rattle.station.specs.State.{list_of}
-use Rattle.rows.proofs.RowLaws.{put_next, put_last}
-use Rattle.terms.specs.Strings.{string_bytes}
 use lib.ListN.{length}
 use mathlib.Core.List.{[], ◌∷◌}
-use mathlib.Core.Path.{refl, ◌∙◌}
+use mathlib.Core.Path.{◌≡◌, refl, ◌∙◌}
 use native.Mathlib.Omega.{arith}
-use Prim.Native.Nat.{◌+◌, ◌-◌}
-use Rattle.station.proofs.await_string.Goals as goal
+use borrow.Author.Rules.{rules}
+use Rattle.rows.proofs.RowLaws.{set_put, put_next, put_last}
+use Rattle.terms.specs.Strings.{string_bytes}
+use Rattle.station.specs.Asks.{awaited}
+use Rattle.station.proofs.wait.begin.Goals as goal
 
 pub returns : goal.returns
-unfolding list_of awaited
+unfolding awaited
 returns c =
     let a = c.args in
-    let st = a.state.now in
-    let long = c.put_string.ensures.1 in
-    c.put_string.ensures.0 ∙ rw c.put.ensures (put_next st (a.code ∷ []) (string_bytes a.s) (length st - 15) (length st - 15 + 1) refl (omega (arith, c.requires, long)))
-    ∙ put_last st (a.code ∷ string_bytes a.s) (length st - 15) (omega (arith, c.requires, long))
+    let w = a.wait.now in
+    let own : length a.s.bytes ≡ 13 = search rules in
+    let long : length (string_bytes a.s) ≡ 14 = rw own in
+    let b = c.from.result in
+    c.put_string.ensures.0 ∙ rw (set_put w 0 b (omega (arith, c.requires)), put_next w (b ∷ []) (string_bytes a.s) 0 1 refl (omega (arith, c.requires, long)), c.from.ensures) (put_last w (_ ∷ string_bytes a.s) 0 (omega (arith, c.requires, long)))
