@@ -134,10 +134,6 @@ bit_is (x ∷ s) at l = by_test (ltb at 8)
         let r : at % 8 ≡ k % 8 = omega (arith, length_bits_of 8 x) in
         ap (λ (n : ℕ). get_or (bits_of 8 x ++ to_bits s) n false) e ∙ get_or-append-add (bits_of 8 x) (to_bits s) k false ∙ ih ∙ sym (rw (q, r))
 
-pub two_bytes : (x y : ℕ) → to_bits (x ∷ y ∷ []) ≡ bits_of 8 x ++ bits_of 8 y
-unfolding to_bits
-two_bytes x y = ap (λ (b : List Bool). bits_of 8 x ++ b) (append-nil (bits_of 8 y))
-
 -- one byte more
 pub bits_more : (s : List ℕ) (i : ℕ) → i < length s → to_bits (take (i + 1) s) ≡ to_bits (take i s) ++ bits_of 8 (get_or s i 0)
 unfolding to_bits
@@ -154,10 +150,10 @@ bits_rest s i l =
     ∙ to_bits_append (take i s) (drop i s)
     ∙ ap (λ (q : List ℕ). to_bits (take i s) ++ to_bits q) (drop-cons s i 0 l ∙ ap (λ (k : ℕ). get_or s i 0 ∷ drop k s) (sym (add-one i)))
 
--- a byte, bytes and two bytes
-pub content_bits : (user lo hi : ℕ) (d : List ℕ) → to_bits ((user ∷ d) ++ (lo ∷ hi ∷ [])) ≡ bits_of 8 user ++ (to_bits d ++ to_bits (lo ∷ hi ∷ []))
+-- a byte, bytes, and more bytes
+pub content_bits : (user : ℕ) (d c : List ℕ) → to_bits ((user ∷ d) ++ c) ≡ bits_of 8 user ++ (to_bits d ++ to_bits c)
 unfolding to_bits
-content_bits user lo hi d = ap (λ (l : List Bool). bits_of 8 user ++ l) (to_bits_append d (lo ∷ hi ∷ []))
+content_bits user d c = ap (λ (l : List Bool). bits_of 8 user ++ l) (to_bits_append d c)
 
 -- the bits from byte i on
 pub drop_to_bits : (i : ℕ) (s : List ℕ) → drop (8 * i) (to_bits s) ≡ to_bits (drop i s)

@@ -9,7 +9,10 @@ use lib.Pow.{split}
 use lib.ListN.{length, drop, get_or}
 use lib.Seq.{drop-cons}
 use Rattle.rows.proofs.BuildLaws.{get_D_build}
-use Rattle.framing.specs.Check.{steps, check_table, check_byte, check_from}
+use Rattle.rows.specs.Words.{build}
+use Rattle.framing.specs.Bits.{odd}
+use Rattle.framing.specs.Check.{step, steps, check_table, check_byte, check_from}
+use Rattle.framing.specs.declared.fcs.TheConstants.{TABLE}
 use Rattle.framing.proofs.XorLaws.{splits}
 
 -- the step by the table is the one bit by bit: the register's high byte, and eight steps of the low one
@@ -24,9 +27,14 @@ table_step f b hb =
     z : b / 256 ≡ 0
     z = omega arith
 
-pub entry_is : (i : ℕ) → i < 256 → get_or check_table i 0 ≡ steps 8 i
+-- the code's table is the one of specs/
+table_is : TABLE ≡ check_table
+unfolding check_table build steps step odd
+table_is = refl
+
+pub entry_is : (i : ℕ) → i < 256 → get_or TABLE i 0 ≡ steps 8 i
 unfolding check_table
-entry_is i l = get_D_build (steps 8) 256 i 0 l
+entry_is i l = ap (λ (t : List ℕ). get_or t i 0) table_is ∙ get_D_build (steps 8) 256 i 0 l
 
 -- ---- bytes one after the other
 pub check_more : (f : ℕ) (s : List ℕ) (i : ℕ) → i < length s → check_from f (drop i s) ≡ check_from (check_byte f (get_or s i 0)) (drop (i + 1) s)

@@ -1,50 +1,45 @@
 -- One law for each thing that stands on the line: its refusals in their order, and the content.
 use Prim.Native.Nat.{ℕ, ◌+◌, ◌-◌, ◌*◌, ◌/◌, ◌%◌, ◌<◌, ◌≤◌}
 use native.Mathlib.Omega.{arith}
-use mathlib.Core.Path.{◌≡◌, refl, sym, ap, ◌∙◌}
-use mathlib.Core.Bool.{Bool, true, false, true≢false}
+use mathlib.Core.Path.{◌≡◌, sym, ap, ◌∙◌}
+use mathlib.Core.Bool.{Bool, true, false}
 use mathlib.Core.List.{List, []}
 use lib.Dec.{eqb}
 use lib.ListN.{length}
 use lib.Seq.{slice}
 use borrow.Author.Tests.{lt-ltb, le-ltb, eq-eqb, ne_eqb}
+use Rattle.std.specs.Prelude.{Ok, Err}
+use Rattle.refusals.specs.declared.Refusal.{Refusal}
+use Rattle.refusals.specs.declared.Refusal.TheVariants.{NoFlag, NoWholeBytes, TooFewBytes, DataTooLong, WrongCheck}
+use Rattle.refusals.specs.Refusals.{number}
 use Rattle.framing.specs.Bits.{to_bits, bytes_for, packed, pack}
 use Rattle.framing.specs.Zeros.{without_zeros}
-use Rattle.framing.specs.Reading.{Scan, ended, sevenOnes, stopped, scan, opens, scanned, checks, content_refusal, scan_refusal, line_refusal, scan_content, content_in}
+use Rattle.framing.specs.Reading.{stopped, scan, opens, scanned, checks, content_refusal, scan_refusal, line_refusal, scan_content, content_in}
 use Rattle.framing.specs.Inner.{Sums, Measures}
 use Rattle.framing.specs.declared.take.Summed.{Summed}
-use Rattle.framing.specs.declared.Content.TheVariants.{Refused, Between}
+use Rattle.framing.specs.declared.runs.Span.{Span}
 use Rattle.framing.proofs.BitLaws.{length_packed, bytes_packed}
 use Rattle.framing.proofs.GoodLaws.{good_is}
 
-some : (k : ℕ) → eqb k 0 ≡ false → k ≡ 0 → ⊥
-some k f e = true≢false (sym (eq-eqb k 0 e) ∙ f)
-
 -- ---- the opening flag, and where the scan stopped
 module _ (s : List ℕ) (n : ℕ) where
-  pub measured_closed : opens s n ≡ false → Measures s n (Refused 18)
-  unfolding Measures line_refusal scanned scan_refusal
-  measured_closed o = (rw o, some 18 refl)
+  pub measured_closed : opens s n ≡ false → Measures s n (Err NoFlag)
+  unfolding line_refusal scanned scan_refusal
+  measured_closed o = rw o
 
-  found : opens s n ≡ true → (x : Scan) → x ≡ scan 0 [] (slice 8 n (to_bits s)) → scanned s n ≡ x
+  pub measured_open : opens s n ≡ true → scanned s n ≡ scan 0 [] (slice 8 n (to_bits s))
   unfolding scanned
-  found o x e = rw o (sym e)
+  measured_open o = rw o
 
-  pub measured_ended : opens s n ≡ true → ended ≡ scan 0 [] (slice 8 n (to_bits s)) → Measures s n (Refused 18)
-  unfolding Measures line_refusal scan_refusal
-  measured_ended o e = (rw (found o ended e), some 18 refl)
-
-  pub measured_seven : opens s n ≡ true → sevenOnes ≡ scan 0 [] (slice 8 n (to_bits s)) → Measures s n (Refused 19)
-  unfolding Measures line_refusal scan_refusal
-  measured_seven o e = (rw (found o sevenOnes e), some 19 refl)
-
-  pub measured_raw : opens s n ≡ true → (bs : List Bool) → stopped bs ≡ scan 0 [] (slice 8 n (to_bits s)) → scanned s n ≡ stopped bs
-  measured_raw o bs e = found o (stopped bs) e
+  pub measured_unstopped : opens s n ≡ true → (r : Refusal) → scan_refusal (scan 0 [] (slice 8 n (to_bits s))) ≡ number r → Measures s n (Err r)
+  unfolding line_refusal
+  measured_unstopped o r e = ap scan_refusal (measured_open o) ∙ e
 
 -- ---- the bits between the flags, and their sum
-module _ (s : List ℕ) (n from to : ℕ) (r : Summed) (e : scanned s n ≡ stopped (slice from to (to_bits s))) (m : Sums (without_zeros 0 (slice from to (to_bits s))) r) where
+module _ (s : List ℕ) (n : ℕ) (span : Span) (r : Summed) (e : scanned s n ≡ stopped (slice span.from span.to (to_bits s)))
+    (m : Sums (without_zeros 0 (slice span.from span.to (to_bits s))) r) where
   abbrev c : List Bool
-  c = without_zeros 0 (slice from to (to_bits s))
+  c = without_zeros 0 (slice span.from span.to (to_bits s))
 
   refusal_is : line_refusal s n ≡ content_refusal c
   unfolding line_refusal scan_refusal
@@ -56,19 +51,19 @@ module _ (s : List ℕ) (n from to : ℕ) (r : Summed) (e : scanned s n ≡ stop
   bytes_is : length c / 8 ≡ r.bytes
   bytes_is = sym m.bytes
 
-  pub measured_20 : (r.left ≡ 0 → ⊥) → Measures s n (Refused 20)
-  unfolding Measures content_refusal
-  measured_20 h = (refusal_is ∙ rw (left_is, ne_eqb r.left 0 h), some 20 refl)
+  pub measured_20 : (r.left ≡ 0 → ⊥) → Measures s n (Err NoWholeBytes)
+  unfolding content_refusal
+  measured_20 h = refusal_is ∙ rw (left_is, ne_eqb r.left 0 h)
 
   module _ (z : r.left ≡ 0) where
-    pub measured_21 : r.bytes < 4 → Measures s n (Refused 21)
-    unfolding Measures content_refusal
-    measured_21 h = (refusal_is ∙ rw (left_is, eq-eqb r.left 0 z, bytes_is, lt-ltb r.bytes 4 h), some 21 refl)
+    pub measured_21 : r.bytes < 4 → Measures s n (Err TooFewBytes)
+    unfolding content_refusal
+    measured_21 h = refusal_is ∙ rw (left_is, eq-eqb r.left 0 z, bytes_is, lt-ltb r.bytes 4 h)
 
     module _ (four : 4 ≤ r.bytes) where
-      pub measured_17 : 1027 < r.bytes → Measures s n (Refused 17)
-      unfolding Measures content_refusal
-      measured_17 h = (refusal_is ∙ rw (left_is, eq-eqb r.left 0 z, bytes_is, le-ltb r.bytes 4 four, lt-ltb 1027 r.bytes h), some 17 refl)
+      pub measured_17 : 1027 < r.bytes → Measures s n (Err DataTooLong)
+      unfolding content_refusal
+      measured_17 h = refusal_is ∙ rw (left_is, eq-eqb r.left 0 z, bytes_is, le-ltb r.bytes 4 four, lt-ltb 1027 r.bytes h)
 
       module _ (most : r.bytes ≤ 1027) where
         whole : length c ≡ 8 * r.bytes
@@ -84,18 +79,17 @@ module _ (s : List ℕ) (n from to : ℕ) (r : Summed) (e : scanned s n ≡ stop
             ∙ good_is (packed r.bytes c) (bytes_packed r.bytes c) (omega (arith, length_packed r.bytes c))
             ∙ ap checks (sym pack_is)
 
-        pub measured_22 : (r.register ≡ 0xF0B8 → ⊥) → Measures s n (Refused 22)
-        unfolding Measures content_refusal
+        pub measured_22 : (r.register ≡ 0xF0B8 → ⊥) → Measures s n (Err WrongCheck)
+        unfolding content_refusal
         measured_22 h =
-            (refusal_is ∙ rw (left_is, eq-eqb r.left 0 z, bytes_is, le-ltb r.bytes 4 four, le-ltb 1027 r.bytes most, sym good, ne_eqb r.register 0xF0B8 h), some 22 refl)
+            refusal_is ∙ rw (left_is, eq-eqb r.left 0 z, bytes_is, le-ltb r.bytes 4 four, le-ltb 1027 r.bytes most, sym good, ne_eqb r.register 0xF0B8 h)
 
-        pub measured_content : r.register ≡ 0xF0B8 → from ≤ to → to ≤ 8 * length s → Measures s n (Between from to (r.bytes - 3))
-        unfolding Measures content_refusal content_in scan_content
-        measured_content h o i = record {
+        pub measured_content : r.register ≡ 0xF0B8 → span.to ≤ 8 * length s → Measures s n (Ok (record { span = span; length = r.bytes - 3 }))
+        unfolding content_refusal content_in scan_content
+        measured_content h i = record {
           good = refusal_is ∙ rw (left_is, eq-eqb r.left 0 z, bytes_is, le-ltb r.bytes 4 four, le-ltb 1027 r.bytes most, sym good, eq-eqb r.register 0xF0B8 h);
           bits = rw e (pack_is ∙ ap (λ (k : ℕ). packed k c) three);
           long = whole ∙ ap (λ (k : ℕ). 8 * k) three;
-          order = o;
           inside = i;
           least = omega arith;
           most = omega arith;

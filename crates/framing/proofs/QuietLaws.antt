@@ -9,8 +9,8 @@ use lib.Seq.{slice, slice_empty}
 use Rattle.framing.specs.Bits.{bits_of, to_bits}
 use Rattle.framing.specs.Reading.{scan}
 use Rattle.framing.specs.Inner.{TakenOut, Passes}
-use Rattle.framing.specs.declared.zeros.Taken.{Taken}
-use Rattle.framing.specs.declared.receive.Passed.{Passed}
+use Rattle.framing.specs.declared.runs.Taken.{Taken}
+use Rattle.framing.specs.declared.runs.Passed.{Passed}
 use Rattle.framing.proofs.BitLaws.{length_to_bits}
 use Rattle.framing.proofs.ZeroLaws.{run_le}
 use Rattle.framing.proofs.TakeLaws.{slice_join, byte_first, byte_slice}

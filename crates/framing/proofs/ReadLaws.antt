@@ -3,9 +3,9 @@ use Prim.Native.Nat.{ℕ, suc, ◌+◌, ◌-◌, ◌<◌, ◌≤◌, min}
 use native.Mathlib.Numerals.{add-one}
 use native.Mathlib.Omega.{arith}
 use mathlib.Core.Path.{◌≡◌, refl, sym, ap, ◌∙◌}
-use mathlib.Core.Bool.{Bool}
+use mathlib.Core.Bool.{Bool, false}
 use mathlib.Core.List.{List, ◌++◌}
-use lib.Dec.{leb}
+use lib.Dec.{eqb, leb}
 use lib.ListN.{length, take, drop, get_or}
 use lib.Seq.{slice, take_all}
 use borrow.Author.Tests.{lt-ltb, le-ltb, ne_eqb, leb-true, leb-false}
@@ -13,20 +13,27 @@ use Rattle.rows.specs.Rows.{part, over}
 use Rattle.rows.proofs.BoolLaws.{by_test}
 use Rattle.framing.specs.Bits.{to_bits, packed}
 use Rattle.framing.specs.Zeros.{without_zeros}
-use Rattle.framing.specs.Reading.{user_in, data_in, data_of, read_unless, put_unless, read_refusal, Reads, ReadsStart}
-use Rattle.framing.specs.Inner.{Holds, Measures}
-use Rattle.framing.specs.declared.Content.TheVariants.{Refused as NoContent}
-use Rattle.framing.specs.declared.Reading.TheVariants.{Refused, Frame}
+use Rattle.framing.specs.Reading.{line_refusal, user_in, data_in, data_of, heading_in, put_unless, read_refusal, Reads, ReadsStart}
+use Rattle.framing.specs.Inner.{Holds}
+use Rattle.framing.specs.declared.Heading.{Heading}
+use Rattle.std.specs.Prelude.{Ok, Err}
+use Rattle.refusals.specs.declared.Refusal.{Refusal}
+use Rattle.refusals.specs.declared.Refusal.TheVariants.{ShortBuffer}
+use Rattle.refusals.specs.Refusals.{number}
+use Rattle.refusals.proofs.OutcomeLaws.{number_never_0}
 use Rattle.framing.proofs.BitLaws.{length_packed, take_packed}
 
-module _ (s : List ℕ) (n : ℕ) (b : List ℕ) where
-  pub read_refused : (k : ℕ) → Measures s n (NoContent k) → Reads s n b (Refused k) b
-  unfolding Measures read_refusal read_unless put_unless
-  read_refused k m = rw (m.0, ne_eqb k 0 m.1) (record { answer = rw (ne_eqb k 0 m.1); left = rw (ne_eqb k 0 m.1) })
+module _ (s : List ℕ) (n : ℕ) (b : List ℕ) (e : Refusal) (m : line_refusal s n ≡ number e) where
+  some : eqb (number e) 0 ≡ false
+  some = ne_eqb (number e) 0 (number_never_0 e)
 
-  pub start_refused : (k : ℕ) → Measures s n (NoContent k) → ReadsStart s n b (Refused k) b
-  unfolding Measures read_unless put_unless
-  start_refused k m = rw m.0 (record { answer = rw (ne_eqb k 0 m.1); left = rw (ne_eqb k 0 m.1) })
+  pub read_refused : Reads s n b (Err e) b
+  unfolding read_refusal put_unless
+  read_refused = record { answer = rw (m, some); left = rw (m, some, some) }
+
+  pub start_refused : ReadsStart s n b (Err e) b
+  unfolding put_unless
+  start_refused = record { answer = m; left = rw (m, some) }
 
 -- ---- a content that stands between two places
 module _ (s : List ℕ) (n from to len : ℕ) (h : Holds s n from to len) where
@@ -64,27 +71,31 @@ module _ (s : List ℕ) (n from to len : ℕ) (h : Holds s n from to len) where
   unfolding packed
   start_long k = ap (λ (j : ℕ). length (drop 1 (packed j c))) (add-one k) ∙ length_packed k (drop 8 c)
 
+  heading : (user : ℕ) → user ≡ user_in s n → ◌≡◌ {A = Heading} (record { user = user; length = len }) (heading_in s n)
+  unfolding heading_in
+  heading user e = rw (e, data_long)
+
   module _ (b : List ℕ) where
-    pub read_13 : length b < len → Reads s n b (Refused 13) b
-    unfolding read_refusal read_unless put_unless
+    pub read_13 : length b < len → Reads s n b (Err ShortBuffer) b
+    unfolding read_refusal put_unless
     read_13 l = rw (h.good, data_long, lt-ltb (length b) len l) (record { answer = refl; left = refl })
 
     pub read_data : len ≤ length b → (user : ℕ) (b' : List ℕ) → user ≡ get_or (packed (len + 1) c) 0 0 → b' ≡ drop 1 (packed (len + 1) c) ++ drop len b
-        → Reads s n b (Frame user len) b'
-    unfolding read_refusal read_unless put_unless
+        → Reads s n b (Ok (record { user = user; length = len })) b'
+    unfolding read_refusal put_unless
     read_data l user b' e f =
         let all : data_in s n ≡ drop 1 (packed (len + 1) c) = sym (take_all len (data_in s n) (omega (arith, data_long))) ∙ start_is len (omega arith) in
         let fits = le-ltb (length b) len l in
         record {
-          answer = rw (h.good, data_long, fits) (ap (λ (u : ℕ). Frame u len) (e ∙ sym user_is));
+          answer = (rw (h.good, data_long, fits), heading user (e ∙ sym user_is));
           left = rw (h.good, data_long, fits) (f ∙ ap (λ (p : List ℕ). p ++ drop len b) (sym all));
         }
 
     pub read_start : (k user : ℕ) (b' : List ℕ) → k ≡ min len (length b) → user ≡ get_or (packed (k + 1) c) 0 0 → b' ≡ drop 1 (packed (k + 1) c) ++ drop k b
-        → ReadsStart s n b (Frame user len) b'
-    unfolding read_unless put_unless packed
+        → ReadsStart s n b (Ok (record { user = user; length = len })) b'
+    unfolding put_unless packed
     read_start k user b' m e f = record {
-      answer = rw (h.good, data_long) (ap (λ (u : ℕ). Frame u len) (e ∙ ap (λ (j : ℕ). get_or (packed j c) 0 0) (add-one k) ∙ sym (user_is ∙ ap (λ (j : ℕ). get_or (packed j c) 0 0) (add-one len))));
+      answer = (h.good, heading user (e ∙ ap (λ (j : ℕ). get_or (packed j c) 0 0) (add-one k) ∙ sym (user_is ∙ ap (λ (j : ℕ). get_or (packed j c) 0 0) (add-one len))));
       left = rw h.good (f ∙ sym (ap (λ (p : List ℕ). over p b) front ∙ ap (λ (j : ℕ). drop 1 (packed (k + 1) c) ++ drop j b) (start_long k)));
     }
       where

@@ -1,5 +1,5 @@
 -- The laws of specs/Reading.antt's scan: the opening flag, and each turn of the search for the closing one.
-use Prim.Native.Nat.{ℕ, suc, ◌+◌, ◌-◌, ◌*◌, ◌/◌, ◌%◌, ◌^◌, ◌<◌, ◌≤◌}
+use Prim.Native.Nat.{ℕ, suc, ◌+◌, ◌-◌, ◌*◌, ◌/◌, ◌%◌, ◌^◌, ◌<◌, ◌≤◌, min}
 use native.Mathlib.Numerals.{add-one}
 use native.Mathlib.Omega.{arith}
 use mathlib.Core.Path.{◌≡◌, refl, sym, ap, ◌∙◌}
@@ -55,7 +55,7 @@ flag_byte x rest l = by_test (eqb x 126)
     is : take 8 (bits_of 8 x ++ rest) ≡ flag → x ≡ 126
     is e = sym (value_bits_of 8 x l) ∙ ap value (sym (take_at (bits_of 8 x) rest 8 (length_bits_of 8 x)) ∙ e)
 
-pub opens_past : (s : List ℕ) (n : ℕ) → length s < n / 8 + (n % 8 + 7) / 8 → false ≡ opens s n
+pub opens_past : (s : List ℕ) (n : ℕ) → length s < n / 8 + min 1 (n % 8) → false ≡ opens s n
 unfolding opens
 opens_past s n h = sym (rw (lt-leb n (8 * length s) (omega arith)))
 
@@ -70,11 +70,11 @@ opens_short s n h = sym (last (leb n (8 * length s)) (starts flag (take n (to_bi
     few : n < 8 → length (take n (to_bits s)) < 8
     few h = omega (arith, length-take n (to_bits s))
 
-pub opens_by : (s : List ℕ) (n : ℕ) → n / 8 + (n % 8 + 7) / 8 ≤ length s → 8 ≤ n → get_or s 0 0 < 2 ^ 8 → eqb (get_or s 0 0) 126 ≡ opens s n
+pub opens_by : (s : List ℕ) (n : ℕ) → n / 8 + min 1 (n % 8) ≤ length s → 8 ≤ n → get_or s 0 0 < 2 ^ 8 → eqb (get_or s 0 0) 126 ≡ opens s n
 unfolding opens to_bits
 opens_by [] n l h b = absurd (none l h)
   where
-    none : n / 8 + (n % 8 + 7) / 8 ≤ 0 → 8 ≤ n → ⊥
+    none : n / 8 + min 1 (n % 8) ≤ 0 → 8 ≤ n → ⊥
     none l h = omega arith
 opens_by (x ∷ s) n l h b =
     sym (rw (le-leb n (8 * suc (length s)) (omega arith))

@@ -14,6 +14,7 @@ use Rattle.rows.proofs.BuildLaws.{get_D_build}
 use Rattle.framing.specs.Bits.{odd, bits_of, bit, value}
 use Rattle.framing.specs.Zeros.{with_zeros, without_zeros}
 use Rattle.framing.specs.Inner.{ones_after, run_after, sixths, half_at, put_entry, put_table, taken_entry, taken_table}
+use Rattle.framing.specs.declared.zeros.TheConstants.{PUT, TAKEN}
 use Rattle.framing.proofs.BitLaws.{bits_value, value_lt}
 
 -- x is the number of bits that are n more than a few, y the ones that stand last, after them
@@ -61,15 +62,20 @@ pub record PutRead (k x e : ℕ) : Type 0 where
   pub entry : Entry (e % 32) (4 + e / 32 % 2) (e / 64) (with_zeros k (bits_of 4 x)) (ones_after k (bits_of 4 x))
   pub few : e ≤ 511
 
-pub put_read : (table : List ℕ) (k x : ℕ) → table ≡ put_table → k < 5 → x < 16 → PutRead k x (get_or table (16 * k + x) 0)
+-- the code's table is the one of specs/
+put_table_is : PUT ≡ put_table
+unfolding put_table build bits_of odd bit value put_entry half_at with_zeros ones_after
+put_table_is = refl
+
+pub put_read : (k x e : ℕ) → e ≡ get_or PUT (16 * k + x) 0 → k < 5 → x < 16 → PutRead k x e
 unfolding put_table put_test half_at
-put_read table k x e l h =
+put_read k x e is l h =
     let i : ℕ = 16 * k + x in
     let at = place k x h in
     let p : get_or (build put_entry 80) i 0 ≡ put_entry i = get_D_build put_entry 80 i 0 (omega arith) in
     let front : Bool = Apart (put_entry i % 32) (put_entry i / 32 % 2) (put_entry i / 64) 4 (with_zeros (i / 16) (half_at i)) (ones_after (i / 16) (half_at i)) in
     let t : (front && leb (put_entry i) 511) ≡ true = all_at put_test 80 i put_tested (omega arith) in
-    rw (e, p)
+    rw (is, put_table_is, p)
     (record {
       entry = rw (at.0, at.1) at (apart (put_entry i % 32) (put_entry i / 32 % 2) (put_entry i / 64) 4 (with_zeros (i / 16) (half_at i)) (ones_after (i / 16) (half_at i)) (and_left front (leb (put_entry i) 511) t));
       few = leb-true (put_entry i) 511 (and_right front (leb (put_entry i) 511) t);
@@ -80,9 +86,14 @@ pub record TakenRead (k x e : ℕ) : Type 0 where
   pub six : e / 256 ≡ sixths k (bits_of 4 x)
   pub few : e ≤ 511
 
-pub taken_read : (table : List ℕ) (k x : ℕ) → table ≡ taken_table → k ≤ 5 → x < 16 → TakenRead k x (get_or table (16 * k + x) 0)
+-- the code's table is the one of specs/
+taken_table_is : TAKEN ≡ taken_table
+unfolding taken_table build bits_of odd bit value taken_entry half_at without_zeros run_after sixths
+taken_table_is = refl
+
+pub taken_read : (k x e : ℕ) → e ≡ get_or TAKEN (16 * k + x) 0 → k ≤ 5 → x < 16 → TakenRead k x e
 unfolding taken_table taken_test half_at
-taken_read table k x e l h =
+taken_read k x e is l h =
     let i : ℕ = 16 * k + x in
     let at = place k x h in
     let p : get_or (build taken_entry 96) i 0 ≡ taken_entry i = get_D_build taken_entry 96 i 0 (omega arith) in
@@ -91,7 +102,7 @@ taken_read table k x e l h =
     let few : Bool = leb (taken_entry i) 511 in
     let t : (front && (six && few)) ≡ true = all_at taken_test 96 i taken_tested (omega arith) in
     let back : (six && few) ≡ true = and_right front (six && few) t in
-    rw (e, p)
+    rw (is, taken_table_is, p)
     (record {
       entry = rw (at.0, at.1) at (apart (taken_entry i % 16) (taken_entry i / 16 % 2) (taken_entry i / 32 % 8) 3 (without_zeros (i / 16) (half_at i)) (run_after (i / 16) (half_at i)) (and_left front (six && few) t));
       six = rw (at.0, at.1) at (eqb-true (taken_entry i / 256) (sixths (i / 16) (half_at i)) (and_left six few back));

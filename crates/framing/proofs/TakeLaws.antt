@@ -16,12 +16,12 @@ use Rattle.rows.proofs.BoolLaws.{by_test, and_left, and_right}
 use Rattle.framing.specs.Bits.{odd, bits_of, to_bits, bit, value, packed}
 use Rattle.framing.specs.Zeros.{without_zeros}
 use Rattle.framing.specs.Check.{check_byte, check_from}
-use Rattle.framing.specs.Inner.{run_after, sixths, TakenOut, whole_byte, coming, Ready, Goes}
-use Rattle.framing.specs.declared.zeros.Taken.{Taken}
-use Rattle.framing.specs.declared.take.Taker.{Taker}
+use Rattle.framing.specs.Inner.{run_after, sixths, TakenOut, whole_byte, coming, Goes}
+use Rattle.framing.specs.declared.runs.Taken.{Taken}
+use Rattle.framing.specs.declared.runs.Taker.{Taker}
 use Rattle.framing.proofs.BitLaws.{bits_join, length_bits_of, length_to_bits, value_bits_of, length_packed, packed_more, take_drop, drop_to_bits}
 use Rattle.framing.proofs.CheckLaws.{check_append}
-use Rattle.framing.proofs.ZeroLaws.{without_append, run_append, sixths_append, run_le}
+use Rattle.framing.proofs.ZeroLaws.{without_append, run_append, sixths_append}
 
 -- ---- one bit
 pub byte_bit : (b : Bool) → bool_byte b ≡ bit b
@@ -29,14 +29,14 @@ unfolding bit
 byte_bit true = refl
 byte_bit false = refl
 
-pub dropped_bit : (k v : ℕ) (b : Bool) → k ≡ 5 → v ≡ bit b → TakenOut k (b ∷ []) (record { bits = 0; count = 0; ones = 0; sixths = v })
+pub dropped_bit : (k : ℕ) (b : Bool) (z : Taken) → k ≡ 5 → z.bits ≡ 0 → z.count ≡ 0 → z.ones ≡ 0 → z.sixths ≡ bit b → TakenOut k (b ∷ []) z
 unfolding without_zeros run_after sixths bits_of
-dropped_bit k v b e f = rw (e, f) (record { bits = refl; small = omega arith; ones = refl; sixths = omega arith })
+dropped_bit k b z e f g h i = rw e (record { bits = rw (f, g); ones = h; sixths = rw i (omega arith) })
 
-pub kept_bit : (k v o : ℕ) (b : Bool) → (k ≡ 5 → ⊥) → v ≡ bit b → o ≡ cond b (k + 1) 0 → TakenOut k (b ∷ []) (record { bits = v; count = 1; ones = o; sixths = 0 })
+pub kept_bit : (k : ℕ) (b : Bool) (z : Taken) → (k ≡ 5 → ⊥) → z.bits ≡ bit b → z.count ≡ 1 → z.ones ≡ cond b (k + 1) 0 → z.sixths ≡ 0 → TakenOut k (b ∷ []) z
 unfolding without_zeros run_after sixths bits_of odd bit
-kept_bit k v o true n f e = rw f (record { bits = rw (ne_eqb k 5 n); small = omega arith; ones = e ∙ sym (rw (ne_eqb k 5 n)); sixths = sym (rw (ne_eqb k 5 n)) })
-kept_bit k v o false n f e = rw f (record { bits = rw (ne_eqb k 5 n); small = omega arith; ones = e ∙ sym (rw (ne_eqb k 5 n)); sixths = sym (rw (ne_eqb k 5 n)) })
+kept_bit k true z n f g h i = record { bits = rw (f, g, ne_eqb k 5 n); ones = h ∙ sym (rw (ne_eqb k 5 n)); sixths = i ∙ sym (rw (ne_eqb k 5 n)) }
+kept_bit k false z n f g h i = record { bits = rw (f, g, ne_eqb k 5 n); ones = h ∙ sym (rw (ne_eqb k 5 n)); sixths = i ∙ sym (rw (ne_eqb k 5 n)) }
 
 -- ---- bits and then more: the second stand above the first
 pub above_lt : (m n a v : ℕ) → a < 2 ^ m → v < 2 ^ n → a + v * 2 ^ m < 2 ^ (m + n)
@@ -46,34 +46,26 @@ above_lt m n a v l h =
     let o : n + m ≡ m + n = omega arith in
     rw (sym o, p) (omega arith)
 
-pub taken_both : (k : ℕ) (xs ys : List Bool) (a b : Taken) → TakenOut k xs a → TakenOut a.ones ys b
-    → TakenOut k (xs ++ ys) (record { bits = a.bits + b.bits * 2 ^ a.count; count = a.count + b.count; ones = b.ones; sixths = a.sixths + b.sixths })
-taken_both k xs ys a b p q = record {
-  bits =
-      bits_join a.count b.count a.bits b.bits p.small
-      ∙ rw (p.bits, q.bits, p.ones) (sym (without_append xs ys k));
-  small = above_lt a.count b.count a.bits b.bits p.small q.small;
-  ones = q.ones ∙ rw p.ones (sym (run_append xs ys k));
-  sixths = rw (p.sixths, q.sixths, p.ones) (sym (sixths_append xs ys k));
+pub taken_both : (k : ℕ) (xs ys : List Bool) (a b z : Taken) → TakenOut k xs a → TakenOut a.ones ys b
+    → z.bits ≡ a.bits + b.bits * 2 ^ a.count → z.count ≡ a.count + b.count → z.ones ≡ b.ones → z.sixths ≡ a.sixths + b.sixths → TakenOut k (xs ++ ys) z
+taken_both k xs ys a b z p q e f g h = record {
+  bits = rw (e, f, bits_join a.count b.count a.bits b.bits a.small, p.bits, q.bits, p.ones) (sym (without_append xs ys k));
+  ones = g ∙ q.ones ∙ rw p.ones (sym (run_append xs ys k));
+  sixths = h ∙ rw (p.sixths, q.sixths, p.ones) (sym (sixths_append xs ys k));
 }
 
 -- ---- a taker goes over bits that stand before the rest
-module _ (b : List Bool) (to : ℕ) (t : Taker) (r : Ready to t) (few : t.held < 8) where
-  pub goes_over : (n : ℕ) (xs : List Bool) (z : Taken) (t' : Taker) → TakenOut t.ones xs z → z.count ≤ 8 → t.at + n ≤ to
+module _ (b : List Bool) (to : ℕ) (t : Taker) (few : t.held < 8) where
+  pub goes_over : (n : ℕ) (xs : List Bool) (z : Taken) (t' : Taker) → TakenOut t.ones xs z → t.at + n ≤ to
       → slice t.at to b ≡ xs ++ slice (t.at + n) to b
       → t'.at ≡ t.at + n → t'.ones ≡ z.ones → t'.acc ≡ t.acc + z.bits * 2 ^ t.held → t'.held ≡ t.held + z.count → Goes b to t t'
   unfolding coming
-  goes_over n xs z t' o l h p e f g i = record {
+  goes_over n xs z t' o h p e f g i = record {
     same =
-        rw (e, f, g, i, bits_join t.held z.count t.acc z.bits r.small, o.bits, o.ones, p)
+        rw (e, f, g, i, bits_join t.held z.count t.acc z.bits t.small, o.bits, o.ones, p)
         (append_assoc (bits_of t.held t.acc) (without_zeros t.ones xs) (without_zeros (run_after t.ones xs) (slice (t.at + n) to b))
         ∙ ap (λ (q : List Bool). bits_of t.held t.acc ++ q) (sym (without_append xs (slice (t.at + n) to b) t.ones)));
-    ready = record {
-      inside = rw e h;
-      few = omega arith;
-      small = rw (g, i) (above_lt t.held z.count t.acc z.bits r.small o.small);
-      run = rw (f, o.ones) (run_le xs t.ones r.run);
-    };
+    inside = rw e h;
     further = omega arith;
   }
 
@@ -92,17 +84,17 @@ module _ (b : List Bool) (to : ℕ) (t : Taker) (r : Ready to t) (few : t.held <
           let few' : 8 ≤ length (bits_of t.held t.acc ++ []) = rw e at h in
           omega (arith, few', length-append (bits_of t.held t.acc) [], length_bits_of t.held t.acc)
 
-pub goes_none : (b : List Bool) (to : ℕ) (t : Taker) → Ready to t → Goes b to t t
-goes_none b to t r = record { same = refl; ready = r; further = omega arith }
+pub goes_none : (b : List Bool) (to : ℕ) (t : Taker) → t.at ≤ to → Goes b to t t
+goes_none b to t r = record { same = refl; inside = r; further = omega arith }
 
 pub goes_both : (b : List Bool) (to : ℕ) (t t' t'' : Taker) → Goes b to t t' → Goes b to t' t'' → Goes b to t t''
-goes_both b to t t' t'' g h = record { same = h.same ∙ g.same; ready = h.ready; further = omega (arith, g.further, h.further) }
+goes_both b to t t' t'' g h = record { same = h.same ∙ g.same; inside = h.inside; further = omega (arith, g.further, h.further) }
 
 -- where all bits are gone over, those in hand are left
-pub coming_last : (b : List Bool) (to : ℕ) (t : Taker) → Ready to t → to ≤ t.at → length (coming b to t) ≡ t.held
+pub coming_last : (b : List Bool) (to : ℕ) (t : Taker) → t.at ≤ to → to ≤ t.at → length (coming b to t) ≡ t.held
 unfolding coming without_zeros
 coming_last b to t r h =
-    let e : t.at ≡ to = omega (arith, r.inside) in
+    let e : t.at ≡ to = omega (arith, r, h) in
     ap (λ (k : ℕ). length (bits_of t.held t.acc ++ without_zeros t.ones (slice k to b))) e
     ∙ ap (λ (q : List Bool). length (bits_of t.held t.acc ++ without_zeros t.ones q)) (slice_empty to b)
     ∙ length-append (bits_of t.held t.acc) []
@@ -113,15 +105,12 @@ unfolding coming
 coming_least b to t = omega (arith, length-append (bits_of t.held t.acc) (without_zeros t.ones (slice t.at to b)), length_bits_of t.held t.acc)
 
 -- a taker before its first step
-pub fresh_coming : (b : List Bool) (from to : ℕ) → coming b to (record { at = from; ones = 0; acc = 0; held = 0 }) ≡ without_zeros 0 (slice from to b)
+pub fresh_coming : (b : List Bool) (from to : ℕ) (t : Taker) → t.at ≡ from → t.ones ≡ 0 → t.acc ≡ 0 → t.held ≡ 0 → coming b to t ≡ without_zeros 0 (slice from to b)
 unfolding coming bits_of
-fresh_coming b from to = refl
-
-pub fresh_ready : (from to : ℕ) → from ≤ to → Ready to (record { at = from; ones = 0; acc = 0; held = 0 })
-fresh_ready from to l = record { inside = l; few = omega arith; small = omega arith; run = omega arith }
+fresh_coming b from to t e f g h = rw (e, f, g, h)
 
 -- ---- the byte in hand, and the taker without it
-module _ (b : List Bool) (to : ℕ) (t t' : Taker) (r : Ready to t) (l : 8 ≤ t.held)
+module _ (b : List Bool) (to : ℕ) (t t' : Taker) (l : 8 ≤ t.held)
     (e : t'.at ≡ t.at) (f : t'.ones ≡ t.ones) (g : t'.acc ≡ t.acc / 256) (i : t'.held ≡ t.held - 8) where
   split_coming : coming b to t ≡ bits_of 8 (t.acc % 256) ++ coming b to t'
   unfolding coming
@@ -140,12 +129,12 @@ module _ (b : List Bool) (to : ℕ) (t t' : Taker) (r : Ready to t) (l : 8 ≤ t
   pub rest_taken : coming b to t' ≡ drop 8 (coming b to t)
   rest_taken = sym (ap (drop 8) split_coming ∙ drop_at (bits_of 8 (t.acc % 256)) (coming b to t') 8 (length_bits_of 8 (t.acc % 256)))
 
-  pub rest_ready : Ready to t'
-  rest_ready =
-      let m : ℕ = t.held - 8 in
-      let long : t.held ≡ 8 + m = omega arith in
-      let high : 2 ^ t.held ≡ 2 ^ 8 * 2 ^ m = ap (λ (k : ℕ). 2 ^ k) long ∙ pow-add 2 8 m in
-      record { inside = rw e r.inside; few = omega (arith, r.few); small = rw (g, i) (omega (arith, r.small, high)); run = rw f r.run }
+-- the bits in hand without eight of them
+pub rest_small : (held acc : ℕ) → acc < 2 ^ held → 8 ≤ held → acc / 256 < 2 ^ (held - 8)
+rest_small held acc small l =
+    let long : held ≡ 8 + (held - 8) = omega arith in
+    let high : 2 ^ held ≡ 2 ^ 8 * 2 ^ (held - 8) = ap (λ (k : ℕ). 2 ^ k) long ∙ pow-add 2 8 (held - 8) in
+    omega (arith, small, high)
 
 -- ---- bytes one after the other, of the bits c
 pub sum_more : (c : List Bool) (i f x : ℕ) → f ≡ check_from 0xFFFF (packed i c) → x ≡ value (take 8 (drop (8 * i) c)) → check_byte f x ≡ check_from 0xFFFF (packed (i + 1) c)

@@ -7,8 +7,12 @@ use mathlib.Core.Logic.{inl, inr}
 use mathlib.Core.List.{List, [], ◌∷◌, ◌++◌, append-nil}
 use lib.Dec.{eqb, leb, ltb}
 use lib.ListN.{length, take, drop, get_or, length-append}
-use borrow.Author.Tests.{eqb-true, eqb-false, ne_eqb, le-ltb, leb-true, not-false}
-use Rattle.rows.specs.Outcomes.{Leaves}
+use borrow.Author.Tests.{eqb-true, ne_eqb, le-ltb, leb-true, not-false}
+use Rattle.std.specs.Prelude.{Result, Ok, Err}
+use Rattle.refusals.specs.declared.Refusal.{Refusal}
+use Rattle.refusals.specs.Refusals.{number}
+use Rattle.refusals.specs.Outcomes.{GivesUnless, LeavesUnless}
+use Rattle.refusals.proofs.OutcomeLaws.{number_never_0, gives_unless_one}
 use Rattle.rows.specs.Rows.{over}
 use Rattle.rows.proofs.BoolLaws.{by_test, either, and_left, and_right}
 use Rattle.rows.proofs.NumberLaws.{Bytes}
@@ -17,12 +21,10 @@ use Rattle.framing.specs.Zeros.{with_zeros, without_zeros}
 use Rattle.framing.specs.Check.{check_byte, check_from, check, check_bytes}
 use Rattle.framing.specs.Frame.{flag, content, framed, frame_bits}
 use Rattle.framing.specs.Promises.{First, Sent}
-use Rattle.framing.specs.Writing.{write_refusal, written_of, bits_after, Writes}
-use Rattle.framing.specs.Reading.{Scan, ended, sevenOnes, stopped, scan, scanned, data_of, checks, content_refusal, scan_refusal, line_refusal, content_in, user_in, data_in, read_unless, put_unless, read_refusal, Reads, ReadsStart}
+use Rattle.framing.specs.Writing.{write_refusal, bits_after, Writes}
+use Rattle.framing.specs.Reading.{Scan, ended, sevenOnes, stopped, scan, scanned, data_of, checks, content_refusal, scan_refusal, line_refusal, content_in, user_in, data_in, heading_in, put_unless, read_refusal, Reads, ReadsStart}
 use Rattle.framing.specs.Inner.{run_after}
-use Rattle.framing.specs.declared.Written.TheVariants.{Bits, Refused}
-use Rattle.framing.specs.declared.Reading.{Reading}
-use Rattle.framing.specs.declared.Reading.TheVariants.{Frame, Refused as Rejected}
+use Rattle.framing.specs.declared.Heading.{Heading}
 use Rattle.framing.proofs.BitLaws.{length_to_bits, length_pack, read_pack}
 use Rattle.framing.proofs.ZeroLaws.{with_long, without_append}
 use Rattle.framing.proofs.CheckLaws.{check_append}
@@ -58,22 +60,12 @@ write_sized user d b e =
     (leb-true 1 (length d) (and_left least most both), leb-true (length d) 1024 (and_right least most both))
 
 -- what was written, into a buffer b
-module _ (user : ℕ) (d b : List ℕ) (n : ℕ) (b' : List ℕ) (w : Writes user d b (Bits n) b') where
+module _ (user : ℕ) (d b : List ℕ) (n : ℕ) (b' : List ℕ) (w : Writes user d b (Ok n) b') where
   unrefused : write_refusal user d b ≡ 0
-  unfolding written_of
-  unrefused = by_test (eqb (write_refusal user d b) 0)
-      (λ t. eqb-true (write_refusal user d b) 0 t)
-      (λ f. absurd (never (write_refusal user d b) (w.answer ∙ rw f)))
-    where
-      never : (k : ℕ) → Bits n ≡ Refused k → ⊥
-      never k e = let z : ◌≡◌ {A = ℕ} 0 1 = cc in omega arith
+  unrefused = w.answer.0
 
   bits : n ≡ length (frame_bits user d)
-  unfolding written_of
-  bits = told (w.answer ∙ rw unrefused)
-    where
-      told : Bits n ≡ Bits (length (frame_bits user d)) → n ≡ length (frame_bits user d)
-      told e = cc
+  bits = w.answer.1
 
   bytes : b' ≡ over (pack (frame_bits user d)) b
   unfolding bits_after
@@ -99,17 +91,24 @@ module _ (user : ℕ) (d b : List ℕ) (n : ℕ) (b' : List ℕ) (w : Writes use
     pub written_back : (line_refusal b' m ≡ 0) × (user_in b' m ≡ user) × (data_in b' m ≡ d)
     written_back = reads_back user d b' m small each sized.0 sized.1 (written_first m enough inside)
 
+    heard : heading_in b' m ≡ record { user = user; length = length d }
+    unfolding heading_in
+    heard = rw (written_back.1, written_back.2)
+
+    answered : (k : ℕ) (r : Result Heading Refusal) → GivesUnless k (heading_in b' m) r → k ≡ 0 → r ≡ Ok (record { user = user; length = length d })
+    answered k r g none = gives_unless_one k (heading_in b' m) r (Ok (record { user = user; length = length d })) g (none, sym heard)
+
     -- what was written always reads back, into any buffer that holds the data
-    pub written_reads_back : (room room' : List ℕ) (r : Reading) → Reads b' m room r room' → length d ≤ length room → (r ≡ Frame user (length d)) × (room' ≡ over d room)
-    unfolding read_unless put_unless read_refusal
+    pub written_reads_back : (room room' : List ℕ) (r : Result Heading Refusal) → Reads b' m room r room' → length d ≤ length room → (r ≡ Ok (record { user = user; length = length d })) × (room' ≡ over d room)
+    unfolding put_unless read_refusal
     written_reads_back room room' r g l =
         let none : read_refusal b' m room ≡ 0 = rw (written_back.0, written_back.2, le-ltb (length room) (length d) l) in
-        (g.answer ∙ rw (none, written_back.1, written_back.2), g.left ∙ rw (none, written_back.2))
+        (answered _ r g.answer none, g.left ∙ rw (none, written_back.2))
 
     -- and its start, as much as the buffer holds, into any
-    pub written_reads_start : (room room' : List ℕ) (r : Reading) → ReadsStart b' m room r room' → (r ≡ Frame user (length d)) × (room' ≡ over (take (length room) d) room)
-    unfolding read_unless put_unless
-    written_reads_start room room' r g = (g.answer ∙ rw (written_back.0, written_back.1, written_back.2), g.left ∙ rw (written_back.0, written_back.2))
+    pub written_reads_start : (room room' : List ℕ) (r : Result Heading Refusal) → ReadsStart b' m room r room' → (r ≡ Ok (record { user = user; length = length d })) × (room' ≡ over (take (length room) d) room)
+    unfolding put_unless
+    written_reads_start room room' r g = (answered _ r g.answer written_back.0, g.left ∙ rw (written_back.0, written_back.2))
 
 -- two different contents never have the same bits
 pub same_bits : (user user' : ℕ) (d d' : List ℕ) → user < 2 ^ 8 → user' < 2 ^ 8 → Bytes d → Bytes d' → frame_bits user d ≡ frame_bits user' d' → (user ≡ user') × (d ≡ d')
@@ -152,36 +151,20 @@ module _ (xs ys : List ℕ) (a b : ℕ) (bytes-xs : Bytes xs) (bytes-ys : Bytes 
 
 -- ---- refusals
 -- a refused write leaves the buffer as it was, and its number is the rule's
-pub write_refused : (user : ℕ) (d b : List ℕ) (k : ℕ) (b' : List ℕ) → Writes user d b (Refused k) b' → (b' ≡ b) × (k ≡ write_refusal user d b) × (k ≡ 0 → ⊥)
-unfolding written_of bits_after
-write_refused user d b k b' w = by_test (eqb (write_refusal user d b) 0)
-    (λ t. absurd (never (length (frame_bits user d)) (w.answer ∙ rw t)))
-    (λ f. let same : k ≡ write_refusal user d b = told (w.answer ∙ rw f) in (w.left ∙ rw f, same, λ z. eqb-false (write_refusal user d b) 0 f (sym same ∙ z)))
-  where
-    never : (n : ℕ) → Refused k ≡ Bits n → ⊥
-    never n e = let z : ◌≡◌ {A = ℕ} 0 1 = cc in omega arith
+pub write_refused : (user : ℕ) (d b : List ℕ) (r : Refusal) (b' : List ℕ) → Writes user d b (Err r) b' → (b' ≡ b) × (number r ≡ write_refusal user d b) × (number r ≡ 0 → ⊥)
+unfolding bits_after
+write_refused user d b r b' w = (w.left ∙ rw (w.answer, ne_eqb (number r) 0 (number_never_0 r)), sym w.answer, number_never_0 r)
 
-    told : {j : ℕ} → Refused k ≡ Refused j → k ≡ j
-    told e = cc
-
-unread : (j : ℕ) (s : List ℕ) (n : ℕ) (p b : List ℕ) (k : ℕ) (b' : List ℕ) → Leaves (read_unless j s n) (put_unless j p b) (Rejected k) b' → (b' ≡ b) × (k ≡ j) × (k ≡ 0 → ⊥)
-unfolding read_unless put_unless
-unread j s n p b k b' g = by_test (eqb j 0)
-    (λ t. absurd (never (user_in s n) (length (data_in s n)) (g.answer ∙ rw t)))
-    (λ f. let same : k ≡ j = told (g.answer ∙ rw f) in (g.left ∙ rw f, same, λ z. eqb-false j 0 f (sym same ∙ z)))
-  where
-    never : (u n : ℕ) → Rejected k ≡ Frame u n → ⊥
-    never u n e = let z : ◌≡◌ {A = ℕ} 0 1 = cc in omega arith
-
-    told : Rejected k ≡ Rejected j → k ≡ j
-    told e = cc
+unread : (j : ℕ) (value : Heading) (p b : List ℕ) (r : Refusal) (b' : List ℕ) → LeavesUnless j value (put_unless j p b) (Err r) b' → (b' ≡ b) × (number r ≡ j) × (number r ≡ 0 → ⊥)
+unfolding put_unless
+unread j value p b r b' g = (g.left ∙ rw (g.answer, ne_eqb (number r) 0 (number_never_0 r)), sym g.answer, number_never_0 r)
 
 -- so does a refused read
-pub read_refused : (s : List ℕ) (n : ℕ) (b : List ℕ) (k : ℕ) (b' : List ℕ) → Reads s n b (Rejected k) b' → (b' ≡ b) × (k ≡ read_refusal s n b) × (k ≡ 0 → ⊥)
-read_refused s n b k b' g = unread (read_refusal s n b) s n (data_in s n) b k b' g
+pub read_refused : (s : List ℕ) (n : ℕ) (b : List ℕ) (r : Refusal) (b' : List ℕ) → Reads s n b (Err r) b' → (b' ≡ b) × (number r ≡ read_refusal s n b) × (number r ≡ 0 → ⊥)
+read_refused s n b r b' g = unread (read_refusal s n b) (heading_in s n) (data_in s n) b r b' g
 
-pub start_refused : (s : List ℕ) (n : ℕ) (b : List ℕ) (k : ℕ) (b' : List ℕ) → ReadsStart s n b (Rejected k) b' → (b' ≡ b) × (k ≡ line_refusal s n) × (k ≡ 0 → ⊥)
-start_refused s n b k b' g = unread (line_refusal s n) s n (take (length b) (data_in s n)) b k b' g
+pub start_refused : (s : List ℕ) (n : ℕ) (b : List ℕ) (r : Refusal) (b' : List ℕ) → ReadsStart s n b (Err r) b' → (b' ≡ b) × (number r ≡ line_refusal s n) × (number r ≡ 0 → ⊥)
+start_refused s n b r b' g = unread (line_refusal s n) (heading_in s n) (take (length b) (data_in s n)) b r b' g
 
 -- ---- room
 -- no frame has more than 9891 bits, so 1237 bytes hold any
@@ -222,18 +205,11 @@ canonical s m e =
     }
 
 -- what a start that was read says: nothing is refused, and this is the frame
-pub start_read : (s : List ℕ) (n : ℕ) (b : List ℕ) (user len : ℕ) (b' : List ℕ) → ReadsStart s n b (Frame user len) b'
-    → (line_refusal s n ≡ 0) × (user ≡ user_in s n) × (len ≡ length (data_in s n)) × (b' ≡ over (take (length b) (data_in s n)) b)
-unfolding read_unless put_unless
-start_read s n b user len b' r = by_test (eqb (line_refusal s n) 0)
-    (λ t. let is = same (r.answer ∙ rw t) in (eqb-true (line_refusal s n) 0 t, is.0, is.1, r.left ∙ rw t))
-    (λ f. absurd (never (r.answer ∙ rw f)))
-  where
-    same : Frame user len ≡ Frame (user_in s n) (length (data_in s n)) → (user ≡ user_in s n) × (len ≡ length (data_in s n))
-    same e = (cc, cc)
-
-    never : Frame user len ≡ Rejected (line_refusal s n) → ⊥
-    never e = let z : ◌≡◌ {A = ℕ} 0 1 = cc in omega arith
+pub start_read : (s : List ℕ) (n : ℕ) (b : List ℕ) (h : Heading) (b' : List ℕ) → ReadsStart s n b (Ok h) b'
+    → (line_refusal s n ≡ 0) × (h.user ≡ user_in s n) × (h.length ≡ length (data_in s n)) × (b' ≡ over (take (length b) (data_in s n)) b)
+unfolding heading_in put_unless
+start_read s n b h b' r =
+    (r.answer.0, ap (λ (x : Heading). x.user) r.answer.1, ap (λ (x : Heading). x.length) r.answer.1, r.left ∙ rw r.answer.0)
 
 -- of a frame that reads well user number and data are bytes, and the data are 1 to 1024
 pub read_ranges : (s : List ℕ) (m : ℕ) → line_refusal s m ≡ 0 → (user_in s m < 256) × Bytes (data_in s m) × (1 ≤ length (data_in s m)) × (length (data_in s m) ≤ 1024)

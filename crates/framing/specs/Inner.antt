@@ -3,6 +3,7 @@ use Rattle.std.specs.Prelude.{ℕ, ◌+◌, ◌-◌, ◌*◌, ◌/◌, ◌%◌, 
 use Rattle.refusals.specs.declared.Refusal.{Refusal}
 use Rattle.refusals.specs.Refusals.{number}
 use Rattle.rows.specs.Words.{build}
+use Rattle.rows.specs.Numbers.{low_bytes}
 use Rattle.framing.specs.Bits.{bits_of, to_bits, bit, value, packed}
 use Rattle.framing.specs.Zeros.{with_zeros, without_zeros}
 use Rattle.framing.specs.Check.{check_from}
@@ -74,6 +75,14 @@ standing out p = to_bits (take p.at out) ++ bits_of p.held p.acc
 unfoldable pub place : Pen → ℕ
 place p = 8 * p.at + p.held
 
+-- the bytes between the flags: user number, data, and the check's number, low byte first
+abbrev pub bytes_sent : ℕ → List ℕ → ℕ → List ℕ
+bytes_sent user d sum = (user ∷ d) ++ low_bytes 2 sum
+
+-- room for bits with their zeros
+abbrev pub HasRoom : List ℕ → Pen → List Bool → Type 0
+HasRoom out p bs = place p + length (with_zeros p.ones bs) ≤ 8 * length out
+
 -- each is a byte
 abbrev pub EachByte : List ℕ → Type 0
 EachByte l = (i : ℕ) → get_or l i 0 < 2 ^ 8
@@ -114,10 +123,11 @@ pub record Sums (c : List Bool) (r : Summed) : Type 0 where
 pub record Passes (b : List Bool) (n at : ℕ) (r : Passed) : Type 0 where
   pub order : at ≤ r.at
   pub inside : r.at ≤ n
+  pub few : r.ones ≤ 5
   pub rest : (since : List Bool) → scan 0 since (drop at (take n b)) ≡ scan r.ones (since ++ drop at (take r.at b)) (drop r.at (take n b))
 
 -- where the search for the closing flag stopped: at the end of some bits, or refused
-unfoldable pub Stops : List Bool → ℕ → Result Span Refusal → Type 0
+abbrev pub Stops : List Bool → ℕ → Result Span Refusal → Type 0
 Stops b n (Ok span) = (scan 0 [] (drop 8 (take n b)) ≡ stopped (drop span.from (take span.to b))) × (span.to ≤ n)
 Stops b n (Err r) = scan_refusal (scan 0 [] (drop 8 (take n b))) ≡ number r
 
@@ -130,6 +140,6 @@ pub record Holds (s : List ℕ) (n from to len : ℕ) : Type 0 where
   pub least : 1 ≤ len
   pub most : len ≤ 1024
 
-unfoldable pub Measures : List ℕ → ℕ → Result Content Refusal → Type 0
+abbrev pub Measures : List ℕ → ℕ → Result Content Refusal → Type 0
 Measures s n (Ok c) = Holds s n c.span.from c.span.to c.length
 Measures s n (Err r) = line_refusal s n ≡ number r

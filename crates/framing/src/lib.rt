@@ -47,7 +47,7 @@ pub fn write(user: u8, data: &[u8], bits: &mut [u8]) -> Result<u16, Refusal>
     }
     let sum = fcs::of_frame(user, data);
     let count = send::count(user, data, sum);
-    if bits.len() < (count + 7) / 8 {
+    if bits.len() < count.div_ceil(8) {
         return Err(Refusal::ShortBuffer);
     }
     send::put_frame(bits, user, data, sum);

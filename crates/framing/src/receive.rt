@@ -12,16 +12,10 @@ use refusals::Refusal;
 pub fn opens(s: &[u8], n: usize) -> bool
     ensures { result ≡ does_open s.now n }
 {
-    if s.len() < n / 8 + (n % 8 + 7) / 8 {
-        return false;
-    }
-    if n < 8 {
-        return false;
-    }
-    s[0] == 126
+    8 <= n && n.div_ceil(8) <= s.len() && s[0] == 126
 }
 
-// Goes from after a zero over whole bytes in which no sixth one stands.
+// Goes from after a zero over whole bytes in which no sixth one stands. No count says beforehand how many those are.
 fn quiet(s: &[u8], n: usize, from: usize) -> Passed
     requires { (n ≤ 8 * length s.now) × (from ≤ n) }
     ensures { Passes (to_bits s.now) n from result }
@@ -44,10 +38,7 @@ fn quiet(s: &[u8], n: usize, from: usize) -> Passed
 fn closes(ones: usize, since: usize) -> bool
     ensures { result ≡ (eqb ones 6 && ltb 8 since) }
 {
-    if ones != 6 {
-        return false;
-    }
-    8 < since
+    ones == 6 && 8 < since
 }
 
 // Where the content starts after a zero: here, if the zero ends a flag.
@@ -57,7 +48,7 @@ fn next_start(ones: usize, from: usize, at: usize) -> usize
     if ones == 6 { at } else { from }
 }
 
-// Looks for the closing flag: 18, 19, or the bits before it.
+// Looks for the closing flag: 18, 19, or the bits before it. A zero takes the place on to where `quiet` stops, a one by one.
 pub fn find(s: &[u8], n: usize) -> Result<Span, Refusal>
     requires { (8 ≤ n) × (n ≤ 8 * length s.now) }
     ensures { Stops (to_bits s.now) n result }

@@ -1,5 +1,5 @@
 // Bits in hand: those that a table gives, and those that are sent and taken.
-ghost use Rattle.std.specs.Prelude.{◌<◌, ◌≤◌, ◌^◌};
+ghost use Rattle.std.specs.Prelude.{◌≡◌, ◌<◌, ◌≤◌, ◌^◌};
 
 // Eight bits at most, how many they are, and how many ones then stand last.
 #[derive(Clone, Copy)]
@@ -36,6 +36,20 @@ pub struct Pen {
     pub ghost few: { ones < 5 },
 }
 
+impl Pen {
+    // Nothing is written yet.
+    pub fn new() -> Pen
+        ensures { (result.at ≡ 0) × (result.acc ≡ 0) × (result.held ≡ 0) × (result.ones ≡ 0) }
+    {
+        Pen {
+            at: 0,
+            acc: 0,
+            held: 0,
+            ones: 0,
+        }
+    }
+}
+
 // Bits counted, and how many ones stand last.
 #[derive(Clone, Copy)]
 pub struct Tally {
@@ -56,12 +70,25 @@ pub struct Taker {
     pub ghost few: { ones ≤ 5 },
 }
 
+impl Taker {
+    // Nothing is taken yet.
+    pub fn new(at: usize) -> Taker
+        ensures { (result.at ≡ at) × (result.ones ≡ 0) × (result.acc ≡ 0) × (result.held ≡ 0) }
+    {
+        Taker {
+            at,
+            ones: 0,
+            acc: 0,
+            held: 0,
+        }
+    }
+}
+
 // A place, and how many ones stand before it.
 #[derive(Clone, Copy)]
 pub struct Passed {
     pub at: usize,
     pub ones: usize,
-    pub ghost few: { ones ≤ 5 },
 }
 
 // The bits from a place to before another.

@@ -1,42 +1,42 @@
 // Sending: bits laid into bytes, low bit first, with a zero after five ones.
-ghost use Rattle.std.specs.Prelude.{◌≡◌, ◌+◌, ◌*◌, ◌<◌, ◌≤◌, ◌^◌, ◌/◌, ◌%◌, [], ◌∷◌, ◌++◌, length};
+ghost use Rattle.std.specs.Prelude.{◌≡◌, ◌+◌, ◌*◌, ◌<◌, ◌≤◌, ◌^◌, ◌++◌, length};
 ghost use Rattle.rows.specs.Rows.{over};
 ghost use Rattle.framing.specs.Bits.{bits_of, to_bits, pack};
-ghost use Rattle.framing.specs.Zeros.{with_zeros};
 ghost use Rattle.framing.specs.Frame.{flag, framed};
-ghost use Rattle.framing.specs.Inner.{place, standing, EachByte, Lays, Sends, Counts};
+ghost use Rattle.framing.specs.Inner.{place, standing, bytes_sent, EachByte, HasRoom, Lays, Sends, Counts};
 
 use crate::runs::{Pen, Run, Tally};
 use crate::zeros;
 
-// Lays eight bits at most.
+// Lays the bits of a run.
 fn put(out: &mut [u8], pen: Pen, run: Run) -> Pen
-    requires { (place pen + run.count ≤ 8 * length out.old) }
+    requires { place pen + run.count ≤ 8 * length out.old }
     ensures { Lays out.old pen (bits_of run.count run.bits) out.new result × (result.ones ≡ run.ones) }
 {
+    let at = pen.at;
     let acc = pen.acc + zeros::raised(run.bits, pen.held);
     let held = pen.held + run.count;
+    let ones = run.ones;
     if held < 8 {
         return Pen {
-            at: pen.at,
+            at,
             acc,
             held,
-            ones: run.ones,
+            ones,
         };
     }
-    let at = pen.at;
     out[at] = (acc % 256) as u8;
     Pen {
         at: at + 1,
         acc: acc / 256,
         held: held - 8,
-        ones: run.ones,
+        ones,
     }
 }
 
 // Sends half a byte.
 fn put_half(out: &mut [u8], pen: Pen, half: u8) -> Pen
-    requires { (half < 16) × (place pen + length (with_zeros pen.ones (bits_of 4 half)) ≤ 8 * length out.old) }
+    requires { (half < 16) × HasRoom out.old pen (bits_of 4 half) }
     ensures { Sends out.old pen (bits_of 4 half) out.new result }
 {
     let run = zeros::put_in(pen.ones, half);
@@ -45,7 +45,7 @@ fn put_half(out: &mut [u8], pen: Pen, half: u8) -> Pen
 
 // Sends a byte.
 fn put_byte(out: &mut [u8], pen: Pen, byte: u8) -> Pen
-    requires { (place pen + length (with_zeros pen.ones (bits_of 8 byte)) ≤ 8 * length out.old) }
+    requires { HasRoom out.old pen (bits_of 8 byte) }
     ensures { Sends out.old pen (bits_of 8 byte) out.new result }
 {
     let low = put_half(out, pen, byte % 16);
@@ -54,7 +54,7 @@ fn put_byte(out: &mut [u8], pen: Pen, byte: u8) -> Pen
 
 // Sends bytes.
 fn put_bytes(out: &mut [u8], pen: Pen, bytes: &[u8]) -> Pen
-    requires { (place pen + length (with_zeros pen.ones (to_bits bytes.now)) ≤ 8 * length out.old) }
+    requires { HasRoom out.old pen (to_bits bytes.now) }
     ensures { Sends out.old pen (to_bits bytes.now) out.new result }
 {
     let mut p = pen;
@@ -64,28 +64,19 @@ fn put_bytes(out: &mut [u8], pen: Pen, bytes: &[u8]) -> Pen
     p
 }
 
-// Sends the two bytes of the check, low byte first.
-fn put_check(out: &mut [u8], pen: Pen, sum: u16) -> Pen
-    requires { (place pen + length (with_zeros pen.ones (to_bits (sum % 256 ∷ sum / 256 ∷ []))) ≤ 8 * length out.old) }
-    ensures { Sends out.old pen (to_bits (sum % 256 ∷ sum / 256 ∷ [])) out.new result }
-{
-    let low = put_byte(out, pen, (sum % 256) as u8);
-    put_byte(out, low, (sum / 256) as u8)
-}
-
-// Sends user number, data and check.
+// Sends user number, data and check, its low byte first.
 fn put_content(out: &mut [u8], pen: Pen, user: u8, data: &[u8], sum: u16) -> Pen
-    requires { (place pen + length (with_zeros pen.ones (to_bits ((user ∷ «data».now) ++ (sum % 256 ∷ sum / 256 ∷ [])))) ≤ 8 * length out.old) }
-    ensures { Sends out.old pen (to_bits ((user ∷ «data».now) ++ (sum % 256 ∷ sum / 256 ∷ []))) out.new result }
+    requires { HasRoom out.old pen (to_bits (bytes_sent user «data».now sum)) }
+    ensures { Sends out.old pen (to_bits (bytes_sent user «data».now sum)) out.new result }
 {
     let first = put_byte(out, pen, user);
     let last = put_bytes(out, first, data);
-    put_check(out, last, sum)
+    put_bytes(out, last, &sum.to_le_bytes())
 }
 
 // Lays two flags.
 fn put_flags(out: &mut [u8], pen: Pen) -> Pen
-    requires { (place pen + 16 ≤ 8 * length out.old) }
+    requires { place pen + 16 ≤ 8 * length out.old }
     ensures { Lays out.old pen (flag ++ flag) out.new result × (result.ones ≡ 0) }
 {
     let run = Run {
@@ -103,23 +94,16 @@ fn put_rest(out: &mut [u8], pen: Pen)
     ensures { out.new ≡ over (pack (standing out.old pen)) out.old }
 {
     if 0 < pen.held {
-        let at = pen.at;
-        out[at] = pen.acc as u8;
+        out[pen.at] = pen.acc as u8;
     }
 }
 
 // Writes a frame, for which there is room.
 pub fn put_frame(out: &mut [u8], user: u8, data: &[u8], sum: u16)
-    requires { length (framed ((user ∷ «data».now) ++ (sum % 256 ∷ sum / 256 ∷ []))) ≤ 8 * length out.old }
-    ensures { out.new ≡ over (pack (framed ((user ∷ «data».now) ++ (sum % 256 ∷ sum / 256 ∷ [])))) out.old }
+    requires { length (framed (bytes_sent user «data».now sum)) ≤ 8 * length out.old }
+    ensures { out.new ≡ over (pack (framed (bytes_sent user «data».now sum))) out.old }
 {
-    let start = Pen {
-        at: 0,
-        acc: 0,
-        held: 0,
-        ones: 0,
-    };
-    let opened = put_flags(out, start);
+    let opened = put_flags(out, Pen::new());
     let sent = put_content(out, opened, user, data, sum);
     let closed = put_flags(out, sent);
     put_rest(out, closed);
@@ -127,7 +111,7 @@ pub fn put_frame(out: &mut [u8], user: u8, data: &[u8], sum: u16)
 
 // Counts a byte's bits.
 fn count_byte(tally: Tally, byte: u8) -> Tally
-    requires { (tally.bits < 2 ^ 32) }
+    requires { tally.bits < 2 ^ 32 }
     ensures { Counts tally (bits_of 8 byte) result }
 {
     let low = zeros::put_in(tally.ones, byte % 16);
@@ -150,14 +134,12 @@ fn count_bytes(tally: Tally, bytes: &[u8]) -> Tally
     t
 }
 
-// Counts the bits of a frame.
+// Counts the bits of a frame: those of four flags, and those between them.
 pub fn count(user: u8, data: &[u8], sum: u16) -> usize
     requires { length «data».now ≤ 1024 }
-    ensures { (result ≡ length (framed ((user ∷ «data».now) ++ (sum % 256 ∷ sum / 256 ∷ [])))) × (result < 2 ^ 16) }
+    ensures { (result ≡ length (framed (bytes_sent user «data».now sum))) × (result < 2 ^ 16) }
 {
     let first = count_byte(Tally { bits: 32, ones: 0 }, user);
     let last = count_bytes(first, data);
-    let low = count_byte(last, (sum % 256) as u8);
-    let high = count_byte(low, (sum / 256) as u8);
-    high.bits
+    count_bytes(last, &sum.to_le_bytes()).bits
 }

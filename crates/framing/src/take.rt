@@ -24,14 +24,12 @@ pub fn bit_at(s: &[u8], at: usize) -> bool
 }
 
 // A whole byte stands at a place.
+#[tactic(auto, unfolding(crate::specs::Inner::whole_byte))]
 pub fn is_whole(at: usize, to: usize) -> bool
     requires { at ≤ to }
     ensures { result ≡ whole_byte at to }
 {
-    if at % 8 != 0 {
-        return false;
-    }
-    8 <= to - at
+    at % 8 == 0 && 8 <= to - at
 }
 
 // Goes over n bits, of which these were taken.
@@ -87,17 +85,12 @@ pub fn sum(s: &[u8], span: Span) -> Summed
 {
     let mut register: u16 = 65535;
     let mut bytes: usize = 0;
-    let mut t = Taker {
-        at: span.from,
-        ones: 0,
-        acc: 0,
-        held: 0,
-    };
+    let mut t = Taker::new(span.from);
     while t.at < span.to {
         t = step(s, span.to, t);
         if 8 <= t.held {
             register = fcs::add_byte(register, byte_of(t));
-            bytes = bytes + 1;
+            bytes += 1;
             t = rest_of(t);
         }
     }
@@ -138,13 +131,7 @@ pub fn deliver(s: &[u8], span: Span, out: &mut [u8], n: usize) -> u8
     requires { (span.to ≤ 8 * length s.now) × (8 * (n + 1) ≤ length (without_zeros 0 (drop span.from (take span.to (to_bits s.now))))) × (n ≤ length out.old) }
     ensures { (result ≡ get_or (packed (n + 1) (without_zeros 0 (drop span.from (take span.to (to_bits s.now))))) 0 0) × (out.new ≡ drop 1 (packed (n + 1) (without_zeros 0 (drop span.from (take span.to (to_bits s.now))))) ++ drop n out.old) }
 {
-    let start = Taker {
-        at: span.from,
-        ones: 0,
-        acc: 0,
-        held: 0,
-    };
-    let first = pull(s, span.to, start);
+    let first = pull(s, span.to, Taker::new(span.from));
     copy(s, span.to, rest_of(first), out, n);
     byte_of(first)
 }

@@ -1,32 +1,23 @@
 use native.Mathlib.Omega.{arith}
-use Rattle.framing.specs.Inner.{Measures}
 use Rattle.framing.proofs.ReadLaws.{read_refused, read_13, read_data}
+use borrow.Author.Rules.{rules}
 use Rattle.framing.proofs.read.Goals as goal
 
-pub returns-then-data-length : goal.returns-then-data-length
-unfolding Measures
-returns-then-data-length c =
-    read_13 _ _ _ _ _ (rw c.in-Between.is at c.measure.ensures) _ c.if-data-length.true
+pub returns-in_err-content : goal.returns-in_err-content
+returns-in_err-content c =
+    let a = c.args in
+    let refused = read_refused a.bits.now a.count a.«data».now c.in_err-content.field-0.0 c.in_err-content.ensures in search rules
+
+pub returns-then-data-content : goal.returns-then-data-content
+returns-then-data-content c = read_13 _ _ _ _ _ c.in_ok-content.ensures _ c.if-data-content.true
 
 pub deliver-user-requires : goal.deliver-user-requires
-unfolding Measures
 deliver-user-requires c =
-    let holds = rw c.in-Between.is at c.measure.ensures in
-    (holds.order, holds.inside, omega (arith, holds.long), c.if-data-length.false)
+    let holds = c.in_ok-content.ensures in
+    (holds.inside, omega (arith, holds.long), c.if-data-content.false)
 
-pub overflow_cast-result : goal.overflow_cast-result
-unfolding Measures
-overflow_cast-result c =
-    let holds = rw c.in-Between.is at c.measure.ensures in
-    omega (arith, holds.most)
+pub overflow_cast-length : goal.overflow_cast-length
+overflow_cast-length c = let holds = c.in_ok-content.ensures in omega (arith, holds.most)
 
-pub returns-in-Refused : goal.returns-in-Refused
-unfolding Measures
-returns-in-Refused c = read_refused _ _ _ _ (rw c.in-Refused.is at c.measure.ensures)
-
-pub returns-else-data-length : goal.returns-else-data-length
-unfolding Measures
-returns-else-data-length c =
-    let got = c.deliver-user.ensures in
-    let holds = rw c.in-Between.is at c.measure.ensures in
-    read_data _ _ _ _ _ holds _ c.if-data-length.false _ _ got.0 got.1
+pub returns : goal.returns
+returns c = let got = c.deliver-user.ensures in read_data _ _ _ _ _ c.in_ok-content.ensures _ c.if-data-content.false _ _ got.0 got.1

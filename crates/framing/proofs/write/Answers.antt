@@ -1,21 +1,25 @@
+use Prim.Native.Nat.{◌≤◌}
 use native.Mathlib.Omega.{arith}
-use mathlib.Core.Path.{sym, ap, ◌∙◌}
+use mathlib.Core.Path.{◌≡◌, sym, ap, ◌∙◌}
 use lib.ListN.{length}
 use Rattle.framing.proofs.WriteLaws.{with_check, written_17, written_13, written_bits}
+use borrow.Author.Rules.{rules}
 use Rattle.framing.proofs.write.Goals as goal
+use Rattle.framing.proofs.write.Goals.{then-is_empty-via-then-is_empty, then-is_empty-via-else-is_empty+then-data-gt1024}
 
-pub returns-then-data-lt1 : goal.returns-then-data-lt1
-returns-then-data-lt1 c = written_17 _ _ _ (λ l g. omega (arith, c.if-data-lt1.true))
+pub returns-then-is_empty : goal.returns-then-is_empty
+returns-then-is_empty c = written_17 _ _ _ λ l g. elim c.then-is_empty.branch [
+  | then-is_empty-via-then-is_empty w ↦ let none : length c.args.«data».now ≡ 0 = search rules in omega (arith, none, l)
+  | then-is_empty-via-else-is_empty+then-data-gt1024 w ↦ omega (arith, w.if-data-gt1024.true, g)
+]
 
-pub returns-then-data-gt1024 : goal.returns-then-data-gt1024
-returns-then-data-gt1024 c = written_17 _ _ _ (λ l g. omega (arith, c.if-data-gt1024.true))
-
-pub returns-then-bits-count : goal.returns-then-bits-count
-returns-then-bits-count c =
+pub returns-then-bits-div_ceil : goal.returns-then-bits-div_ceil
+returns-then-bits-div_ceil c =
     let a = c.args in
     let sum = c.of_frame-sum in
-    written_13 a.user a.«data».now _ c.if-data-lt1.false c.if-data-gt1024.false c.count-count.result
-    (c.count-count.ensures.0 ∙ ap length (with_check a.user sum.result a.«data».now sum.ensures (omega arith))) c.if-bits-count.true
+    let some : 1 ≤ length a.«data».now = search rules in
+    written_13 a.user a.«data».now _ some c.if-data-gt1024.false c.count-count.result
+    (c.count-count.ensures.0 ∙ ap length (with_check a.user sum.result a.«data».now sum.ensures)) (omega (arith, c.if-bits-div_ceil.true, c.div_ceil.ensures))
 
 pub overflow_cast-result : goal.overflow_cast-result
 overflow_cast-result c = omega (arith, c.count-count.ensures.1)
@@ -24,6 +28,7 @@ pub returns : goal.returns
 returns c =
     let a = c.args in
     let sum = c.of_frame-sum in
-    let e = with_check a.user sum.result a.«data».now sum.ensures (omega arith) in
-    written_bits a.user a.«data».now _ _ c.if-data-lt1.false c.if-data-gt1024.false c.count-count.result
-    (c.count-count.ensures.0 ∙ ap length e) c.if-bits-count.false (rw (sym e) c.put_frame.ensures)
+    let e = with_check a.user sum.result a.«data».now sum.ensures in
+    let some : 1 ≤ length a.«data».now = search rules in
+    written_bits a.user a.«data».now _ _ some c.if-data-gt1024.false c.count-count.result
+    (c.count-count.ensures.0 ∙ ap length e) (omega (arith, c.if-bits-div_ceil.false, c.div_ceil.ensures)) (rw (sym e) c.put_frame.ensures)

@@ -3,7 +3,7 @@ use native.Mathlib.Omega.{arith}
 use mathlib.Core.Path.{sym, ◌∙◌}
 use lib.ListN.{length}
 use Rattle.framing.specs.Bits.{to_bits}
-use Rattle.framing.specs.Inner.{scan_of, Within}
+use Rattle.framing.specs.Reading.{scan_refusal}
 use Rattle.framing.proofs.BitLaws.{length_to_bits}
 use Rattle.framing.proofs.ScanLaws.{scan_starts, scan_seven, scan_one, scan_closes, scan_after, scan_ends}
 use Rattle.framing.proofs.QuietLaws.{scan_passed}
@@ -16,13 +16,13 @@ pub bit_at-bit-requires : goal.bit_at-bit-requires
 bit_at-bit-requires c = omega (arith, c.loop-at-test.true, c.requires.1)
 
 pub returns-then-ones-eq6 : goal.returns-then-ones-eq6
-unfolding scan_of Within
+unfolding scan_refusal
 returns-then-ones-eq6 c =
     let at = c.loop-at in
     let a = c.args in
     let w = c.requires.1 in
     let bit = c.bit_at-bit in
-    (scan_seven (to_bits a.s.now) a.n at.from at.at at.ones (omega (arith, length_to_bits a.s.now, w)) at.invariant c.loop-at-test.true (sym bit.ensures ∙ c.if-bit.true) c.if-ones-eq6.true, tt)
+    rw (sym (scan_seven (to_bits a.s.now) a.n at.from at.at at.ones (omega (arith, length_to_bits a.s.now, w)) at.invariant c.loop-at-test.true (sym bit.ensures ∙ c.if-bit.true) c.if-ones-eq6.true))
 
 pub overflow_add-ones : goal.overflow_add-ones
 overflow_add-ones c = omega (arith, c.loop-at.invariant.few)
@@ -38,26 +38,34 @@ loop-at-preserved-then-bit c =
 pub overflow_sub-at : goal.overflow_sub-at
 overflow_sub-at c = omega (arith, c.loop-at.invariant.order)
 
-pub overflow_sub-result : goal.overflow_sub-result
-overflow_sub-result c =
+pub overflow_sub-to : goal.overflow_sub-to
+overflow_sub-to c =
     let at = c.loop-at in
     omega (arith, at.invariant.order, at.invariant.opened)
 
 pub returns-then-closes : goal.returns-then-closes
-unfolding scan_of Within
 returns-then-closes c =
     let at = c.loop-at in
     let a = c.args in
     let w = c.requires.1 in
     let bit = c.bit_at-bit in
     let closed = scan_closes (to_bits a.s.now) a.n at.from at.at at.ones (omega (arith, length_to_bits a.s.now, w)) at.invariant c.loop-at-test.true (sym bit.ensures ∙ c.if-bit.false) (sym c.closes.ensures ∙ c.if-closes.true) in
-    (closed.0, closed.1)
+    (sym closed.0, closed.1.1)
+
+pub invariant_of-result : goal.invariant_of-result
+invariant_of-result c =
+    let at = c.loop-at in
+    let a = c.args in
+    let w = c.requires.1 in
+    let bit = c.bit_at-bit in
+    let closed = scan_closes (to_bits a.s.now) a.n at.from at.at at.ones (omega (arith, length_to_bits a.s.now, w)) at.invariant c.loop-at-test.true (sym bit.ensures ∙ c.if-bit.false) (sym c.closes.ensures ∙ c.if-closes.true) in
+    record { order = closed.1.0 }
 
 pub quiet-q-requires : goal.quiet-q-requires
 quiet-q-requires c =
     let a = c.args in
     let pre = c.requires in
-    (c.taken_table-table.ensures, pre.1, omega (arith, c.loop-at-test.true))
+    (pre.1, omega (arith, c.loop-at-test.true))
 
 pub loop-at-smaller : goal.loop-at-smaller
 loop-at-smaller c = omega (arith, c.quiet-q.ensures.order, c.quiet-q.ensures.inside, c.loop-at-test.true)
@@ -75,5 +83,5 @@ loop-at-preserved c =
     c.quiet-q.ensures
 
 pub returns : goal.returns
-unfolding scan_of Within
-returns c = let at = c.loop-at in (scan_ends _ _ at.from at.at at.ones at.invariant c.loop-at-test.false, tt)
+unfolding scan_refusal
+returns c = let at = c.loop-at in rw (sym (scan_ends _ _ at.from at.at at.ones at.invariant c.loop-at-test.false))

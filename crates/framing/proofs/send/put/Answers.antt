@@ -1,37 +1,44 @@
-use Prim.Native.Nat.{◌+◌}
+use Prim.Native.Nat.{◌+◌, ◌/◌, ◌%◌}
 use native.Mathlib.Omega.{arith}
-use mathlib.Core.Path.{refl}
+use mathlib.Core.Path.{refl, ap}
 use lib.Pow.{pow_mono}
 use Rattle.framing.specs.Inner.{place}
-use Rattle.framing.proofs.TakeLaws.{above_lt}
-use Rattle.framing.proofs.PenLaws.{lays_short, lays_full}
+use Rattle.framing.proofs.PenLaws.{acc_small, left_short, left_small, lays_short, lays_full}
 use Rattle.framing.proofs.send.put.Goals as goal
 
 pub raised-requires : goal.raised-requires
-raised-requires c =
-    let run = c.args.run in
-    let pre = c.requires in
-    (omega (arith, pre.2, pow_mono {i = run.count} {j = 8} pre.1), pre.0.few)
+raised-requires c = let run = c.args.run in (omega (arith, run.small, pow_mono {i = run.count} {j = 8} run.short), c.args.pen.short)
 
 pub overflow_add-acc : goal.overflow_add-acc
 overflow_add-acc c =
     let a = c.args in
-    let pre = c.requires in
-    record { fits = rw c.raised.ensures (omega (arith, above_lt a.pen.held a.run.count a.pen.acc a.run.bits pre.0.small pre.2, pow_mono {i = a.pen.held + a.run.count} {j = 16} (omega (arith, pre.0.few, pre.1)))) }
+    record { fits = rw c.raised.ensures (omega (arith, acc_small a.pen a.run, pow_mono {i = a.pen.held + a.run.count} {j = 16} (omega (arith, a.pen.short, a.run.short)))) }
+
+pub invariant_of-result : goal.invariant_of-result
+invariant_of-result c = let a = c.args in record { short = c.if-held-lt8.true; small = rw c.raised.ensures (acc_small a.pen a.run); few = a.run.few }
 
 pub returns-then-held-lt8 : goal.returns-then-held-lt8
+unfolding place
 returns-then-held-lt8 c =
     let a = c.args in
-    let pre = c.requires in
-    (rw c.raised.ensures (lays_short _ a.pen a.run.count a.run.bits a.run.ones pre.0 pre.2 c.if-held-lt8.true), refl)
+    (lays_short _ a.pen a.run _ (omega (arith, c.requires)) refl (ap (λ n. a.pen.acc + n) c.raised.ensures) refl, refl)
 
 pub bounds-out-at : goal.bounds-out-at
 unfolding place
-bounds-out-at c = omega (arith, c.requires.3, c.if-held-lt8.false)
+bounds-out-at c = omega (arith, c.requires, c.if-held-lt8.false)
+
+pub overflow_add-result : goal.overflow_add-result
+unfolding place
+overflow_add-result c = record { fits = omega (arith, c.requires, c.if-held-lt8.false) }
+
+pub invariant_of-result-2 : goal.invariant_of-result-2
+invariant_of-result-2 c =
+    let a = c.args in
+    record { short = left_short a.pen a.run; small = rw c.raised.ensures (left_small a.pen a.run c.if-held-lt8.false); few = a.run.few }
 
 pub returns : goal.returns
 unfolding place
 returns c =
     let a = c.args in
-    let pre = c.requires in
-    (rw c.raised.ensures (lays_full _ a.pen a.run.count a.run.bits a.run.ones pre.0 pre.2 c.if-held-lt8.false pre.1 (omega (arith, pre.3, c.if-held-lt8.false))), refl)
+    let acc = ap (λ n. a.pen.acc + n) c.raised.ensures in
+    (lays_full _ a.pen a.run _ c.if-held-lt8.false (omega (arith, c.requires, c.if-held-lt8.false)) _ (ap (λ n. n % 256) acc) refl (ap (λ n. n / 256) acc) refl, refl)

@@ -4,18 +4,16 @@ use Rattle.framing.proofs.TakeLaws.{goes_none, goes_both, coming_more}
 use Rattle.framing.proofs.take.pull.Goals as goal
 
 pub loop-r-init : goal.loop-r-init
-loop-r-init c = let pre = c.requires in (goes_none _ _ _ pre.2, pre.3)
+loop-r-init c = let pre = c.requires in (goes_none _ _ _ pre.1, pre.2)
 
 pub step-r-requires : goal.step-r-requires
 step-r-requires c =
     let at = c.loop-r in
     let a = c.args in
-    let pre = c.requires in
-    let ready = at.invariant.0.ready in
-    (pre.0, pre.1, ready, c.loop-r-test.true, coming_more (to_bits a.s.now) a.to at.r ready c.loop-r-test.true at.invariant.1)
+    (c.requires.0, c.loop-r-test.true, coming_more (to_bits a.s.now) a.to at.r c.loop-r-test.true at.invariant.1)
 
 pub loop-r-smaller : goal.loop-r-smaller
-loop-r-smaller c = omega (arith, c.step-r.ensures.0.ready.inside, c.step-r.ensures.1)
+loop-r-smaller c = omega (arith, c.step-r.ensures.0.inside, c.step-r.ensures.1)
 
 pub loop-r-preserved : goal.loop-r-preserved
 loop-r-preserved c =

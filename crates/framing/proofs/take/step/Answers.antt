@@ -13,8 +13,8 @@ pub go_over-requires : goal.go_over-requires
 go_over-requires c =
     let a = c.args in
     let pre = c.requires in
-    let whole = whole_place a.t.at a.to (sym c.is_whole.ensures ∙ c.if-is_whole.true) pre.2.inside in
-    (pre.3, pre.2.small, c.byte_taken.ensures.1, c.byte_taken.ensures.0.small, omega (arith, whole.1))
+    let whole = whole_place a.t.at a.to (sym c.is_whole.ensures ∙ c.if-is_whole.true) (omega (arith, pre.2)) in
+    (pre.1, omega (arith, whole.1))
 
 pub returns-then-is_whole : goal.returns-then-is_whole
 returns-then-is_whole c =
@@ -23,9 +23,9 @@ returns-then-is_whole c =
     let a = c.args in
     let pre = c.requires in
     let s = a.s.now in
-    let whole = whole_place a.t.at a.to (sym c.is_whole.ensures ∙ c.if-is_whole.true) pre.2.inside in (
-      goes_over (to_bits s) a.to a.t pre.2 pre.3 8 (bits_of 8 (get_or s (a.t.at / 8) 0)) z.result c.go_over.result z.ensures.0 z.ensures.1 whole.1
-          (byte_first s a.t.at a.to whole.0 whole.1 pre.1) over.0 over.1 over.2 over.3,
+    let whole = whole_place a.t.at a.to (sym c.is_whole.ensures ∙ c.if-is_whole.true) (omega (arith, pre.2)) in (
+      goes_over (to_bits s) a.to a.t pre.1 8 (bits_of 8 (get_or s (a.t.at / 8) 0)) z.result c.go_over.result z.ensures whole.1
+          (byte_first s a.t.at a.to whole.0 whole.1 pre.0) over.0 over.1 over.2 over.3,
       omega (arith, over.0),
     )
 
@@ -38,8 +38,8 @@ returns c =
     let s = a.s.now in
     let bit = c.bit_at in
     let here : slice a.t.at a.to (to_bits s) ≡ (bit.result ∷ []) ++ slice (a.t.at + 1) a.to (to_bits s) =
-    bit_slice (to_bits s) a.t.at a.to pre.4 (omega (arith, length_to_bits s, pre.1)) ∙ ap (λ x. (x ∷ []) ++ slice (a.t.at + 1) a.to (to_bits s)) (sym bit.ensures) in (
-      goes_over (to_bits s) a.to a.t pre.2 pre.3 1 (bit.result ∷ []) z.result c.go_over-2.result z.ensures.0 z.ensures.1 (omega (arith, pre.4))
+    bit_slice (to_bits s) a.t.at a.to pre.2 (omega (arith, length_to_bits s, pre.0)) ∙ ap (λ x. (x ∷ []) ++ slice (a.t.at + 1) a.to (to_bits s)) (sym bit.ensures) in (
+      goes_over (to_bits s) a.to a.t pre.1 1 (bit.result ∷ []) z.result c.go_over-2.result z.ensures (omega (arith, pre.2))
           here over.0 over.1 over.2 over.3,
       omega (arith, over.0),
     )

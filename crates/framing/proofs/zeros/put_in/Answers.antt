@@ -1,14 +1,17 @@
 use native.Mathlib.Omega.{arith}
+use Rattle.framing.specs.Bits.{bits_of}
+use Rattle.framing.proofs.ZeroLaws.{ones_lt}
 use Rattle.framing.proofs.TableLaws.{put_read, entry_bits, entry_small}
 use Rattle.framing.proofs.zeros.put_in.Goals as goal
 
-pub overflow_cast-entry-2 : goal.overflow_cast-entry-2
-overflow_cast-entry-2 c = record { fits = omega (arith, (put_read _ _ _ c.requires.0 c.requires.1 c.requires.2).few) }
-
-pub overflow_cast-result-2 : goal.overflow_cast-result-2
-overflow_cast-result-2 c = record { fits = omega (arith, (put_read _ _ _ c.requires.0 c.requires.1 c.requires.2).few) }
+pub invariant_of-result : goal.invariant_of-result
+invariant_of-result c =
+    let a = c.args in
+    let e = (put_read a.ones a.half _ c.entry-entry.ensures c.requires.0 c.requires.1).entry in
+    record { short = omega arith; small = entry_small e; few = rw e.last (ones_lt (bits_of 4 a.half) a.ones c.requires.0) }
 
 pub returns : goal.returns
 returns c =
-    let e = (put_read _ _ _ c.requires.0 c.requires.1 c.requires.2).entry in
-    (record { bits = entry_bits e; small = entry_small e; ones = e.last }, omega arith)
+    let a = c.args in
+    let e = (put_read a.ones a.half _ c.entry-entry.ensures c.requires.0 c.requires.1).entry in
+    (record { bits = entry_bits e; ones = e.last }, omega arith)
