@@ -76,6 +76,7 @@ fn is_flagged(records: &[u8], n: usize) -> bool
 }
 
 // A row stands in these bytes: 64 records with flags 0 or 1.
+#[tactic(auto, using(rows::proofs::IndexLaws::pass_on), unfolding(crate::specs::Good::is_row, rows::specs::Words::all))]
 pub fn is_row(records: &[u8]) -> bool
     ensures { Gives (is_row records.now) result }
 {

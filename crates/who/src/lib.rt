@@ -149,6 +149,7 @@ fn is_plain(s: Station) -> bool
 }
 
 // The record of number n keeps the rules. The counts of a record that is zero are in range.
+#[tactic(auto, using(crate::proofs::RecordLaws::plain_counts), unfolding(crate::specs::Good::good_station))]
 fn station_good(n: usize, s: Station) -> bool
     ensures { result ≡ good_station n s }
 {
@@ -163,6 +164,7 @@ fn station_good(n: usize, s: Station) -> bool
 }
 
 // The 64 records keep the rules: a row stands in the bytes, and each record of it is good.
+#[tactic(auto, using(rows::proofs::IndexLaws::pass_on, rows::proofs::IndexLaws::pass_ends, crate::proofs::RowLaws::row_each, crate::proofs::RowLaws::row_is), unfolding(rows::specs::Words::all, crate::specs::Good::good_records))]
 pub fn is_good(records: &[u8]) -> bool
     ensures { Gives (good_records records.now) result }
 {
@@ -178,6 +180,7 @@ pub fn is_good(records: &[u8]) -> bool
 }
 
 // Leaves only user 0 logged in.
+#[tactic(auto, using(crate::proofs::WhoLaws::fresh_made))]
 pub fn fresh(records: &mut [u8])
     requires { length records.old ≡ 18 * numbers }
     ensures { records.new ≡ fresh_records }
@@ -204,6 +207,7 @@ pub fn is_due(misses: u16, slow: u8) -> bool
 }
 
 // One poll turn of a station with these misses and slow turns, heard or not.
+#[tactic(auto, using(crate::proofs::RecordLaws::counts_is), unfolding(crate::specs::Turns::turn_of, crate::specs::Turns::is_out, crate::specs::Turns::misses_after, crate::specs::Turns::slow_after))]
 pub fn turn_of(misses: u16, slow: u8, heard: bool) -> Turn
     requires { good_counts misses slow ≡ true }
     ensures { result ≡ turn_of misses slow heard }
