@@ -74,6 +74,7 @@ pub fn unlock(table: &mut [u8], who: u8, s: LockString) -> Status
 }
 
 // Frees row i where it is `who`'s.
+#[tactic(auto, using(rows::proofs::RowLaws::put_part), unfolding(crate::specs::Row::freed, crate::specs::Table::owner_at))]
 fn free_if_of(table: &mut [u8], i: usize, who: u8)
     requires { 16 * i + 16 ≤ length table.old }
     ensures { table.new ≡ set_row 16 table.old i (freed who (row_at 16 table.old i)) }

@@ -24,6 +24,7 @@ fn row_good(r: &[u8], word: u64) -> bool
 }
 
 // Each of the first n rows keeps the rules by itself.
+#[tactic(auto, using(rows::proofs::IndexLaws::pass_on, rows::proofs::IndexLaws::pass_ends, rows::proofs::RowLaws::length_part), unfolding(rows::specs::Words::all, crate::specs::Good::sound_at))]
 pub fn rows_good(table: &[u8], n: usize, word: u64) -> bool
     requires { 16 * n ≤ length table.now }
     ensures { result ≡ all (sound_at (bit_at word) table.now) n }

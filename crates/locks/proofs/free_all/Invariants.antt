@@ -1,10 +1,7 @@
-use Prim.Native.Nat.{◌≤◌}
-use Rattle.locks.specs.Table.{row_count}
 use Rattle.locks.specs.Row.{freed}
 use Rattle.rows.specs.Rows.{each_row}
-use lib.ListN.{length}
 use mathlib.Core.Path.{◌≡◌}
 use Rattle.locks.proofs.free_all.Given as goal
 
 abbrev pub invariant-loop-i : goal.invariant-loop-i
-invariant-loop-i l = (l.i ≤ row_count l.initial.table) × (l.table ≡ each_row 16 (freed l.who) l.i l.initial.table) × (length l.table ≡ length l.initial.table)
+invariant-loop-i l = l.table ≡ each_row 16 (freed l.who) l.i l.initial.table
