@@ -61,16 +61,13 @@ pub fn tell_error(rt: &impl Errors, what: &[u8], error: &Error) {
 }
 
 // What an attempt gave. Where it failed, a line on standard error says what did, as the caller names it, and why.
-pub fn or_tell<T>(rt: &impl Errors, what: &[u8], attempt: io::Result<T>) -> Option<T>
+pub fn or_tell<T: Drop>(rt: &impl Errors, what: &[u8], attempt: io::Result<T>) -> Option<T>
     ensures { result ≡ result_ok attempt }
 {
-    match attempt {
-        Ok(value) => Some(value),
-        Err(error) => {
-            tell_error(rt, what, &error);
-            None
-        }
+    if let Err(error) = &attempt {
+        tell_error(rt, what, error);
     }
+    attempt.ok()
 }
 
 // Reads once, behind what is kept, where there is room, and answers where what was read then ends.

@@ -18,7 +18,9 @@ pub struct Page<'a> {
 
 impl<'a> Page<'a> {
     // A page without text.
-    pub fn new(room: &'a mut [u8]) -> Page<'a> {
+    pub fn new(room: &'a mut [u8]) -> Page<'a>
+        ensures { result.end ≡ 0 }
+    {
         Page { room, end: 0 }
     }
 

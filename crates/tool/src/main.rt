@@ -6,7 +6,7 @@ mod boots;
 mod disks;
 mod words;
 
-ghost use Rattle.std.specs.Prelude.{◌<◌};
+ghost use Rattle.std.specs.Prelude.{◌≤◌, ◌<◌, length};
 
 use files::Errors;
 use pages::frame::Unfit;
@@ -71,7 +71,9 @@ fn argument_count(rt: &impl Env) -> usize {
 }
 
 // Argument i; nothing where it is missing or there is no room for it.
-fn argument<'a>(rt: &impl Env, i: usize, room: &'a mut [u8]) -> &'a [u8] {
+fn argument<'a>(rt: &impl Env, i: usize, room: &'a mut [u8]) -> &'a [u8]
+    ensures { length result.now ≤ length room.old }
+{
     let n = rt.arg(i, room).unwrap_or(0);
     &room[..n]
 }
