@@ -1,28 +1,43 @@
 -- Writing a block: 16, then 13; what is refused changes nothing, and what is written reads back as the record.
-use Prim.Native.Nat.{ℕ, ◌≤◌}
+use Prim.Native.Nat.{ℕ, ◌≤◌, ◌<◌}
 use native.Mathlib.Omega.{arith}
 use mathlib.Core.Path.{◌≡◌, refl, sym, ◌∙◌}
 use mathlib.Core.Bool.{true, false}
 use mathlib.Core.List.{List, ◌++◌}
 use lib.Dec.{ltb}
 use lib.ListN.{length, drop}
-use borrow.Author.Tests.{ltb-false, ne_eqb}
+use borrow.Author.Tests.{lt-ltb, le-ltb, ltb-false, ne_eqb}
+use Rattle.refusals.specs.declared.Refusal.{Refusal}
+use Rattle.refusals.specs.Refusals.{number}
+use Rattle.refusals.proofs.OutcomeLaws.{number_never_0}
+use Rattle.rows.specs.Rows.{put}
+use Rattle.rows.proofs.RowLaws.{over_first}
 use Rattle.rows.proofs.BoolLaws.{by_test}
 use Rattle.params.specs.declared.System.{System}
 use Rattle.params.specs.Tables.{sized}
 use Rattle.params.specs.Blocks.{block_bytes, ReadsAs}
-use Rattle.params.specs.Answers.{room_refusal, write_refusal, Puts, buffer_after, Writes}
+use Rattle.params.specs.Answers.{size_refusal, room_refusal, write_refusal, Puts, buffer_after, Writes}
 use Rattle.params.proofs.FigureLaws.{block_long, block_reads}
 
--- a number that is no size code, and one that is
-module _ (system : System) (n : ℕ) (b : List ℕ) where
-  pub writes_not_sized : sized n ≡ false → Writes system n b 16 b
-  unfolding write_refusal
-  writes_not_sized none = rw none (record { answer = refl; left = refl })
+-- a number that is no size code; a size code with a buffer that is too short, and with one that is not
+module _ (n : ℕ) (block b : List ℕ) where
+  pub puts_not_sized : (r : Refusal) → size_refusal n ≡ number r → Puts (write_refusal n b) block b (number r) b
+  unfolding size_refusal write_refusal
+  puts_not_sized r e = by_test (sized n)
+      (λ code. absurd (number_never_0 r (sym (rw code at e))))
+      (λ none. rw none (record { answer = sym (rw none at e); left = refl }))
 
-  pub writes_sized : sized n ≡ true → {r : ℕ} {b' : List ℕ} → Puts (room_refusal b) (block_bytes system n) b r b' → Writes system n b r b'
-  unfolding write_refusal
-  writes_sized code done = rw code done
+  sized_if : size_refusal n ≡ 0 → sized n ≡ true
+  unfolding size_refusal
+  sized_if z = by_test (sized n) (λ code. code) (λ none. let bad = rw none at z in absurd (omega arith))
+
+  pub puts_short : size_refusal n ≡ 0 → length b < 15 → Puts (write_refusal n b) block b 13 b
+  unfolding write_refusal room_refusal
+  puts_short z short = rw (sized_if z, lt-ltb (length b) 15 short) (record { answer = refl; left = refl })
+
+  pub puts_whole : size_refusal n ≡ 0 → 15 ≤ length b → {b' : List ℕ} → b' ≡ put b 0 block → Puts (write_refusal n b) block b 0 b'
+  unfolding write_refusal room_refusal
+  puts_whole z long is = rw (sized_if z, le-ltb (length b) 15 long) (record { answer = refl; left = is ∙ over_first b block })
 
 -- k is the refusal, 0 for none: a block that is refused changes nothing
 pub refused_untouched : (k : ℕ) (block b : List ℕ) {r : ℕ} {b' : List ℕ} → Puts k block b r b' → (r ≡ 0 → ⊥) → b' ≡ b

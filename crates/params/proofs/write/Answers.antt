@@ -1,15 +1,10 @@
-use mathlib.Core.Path.{◌∙◌, sym}
-use Rattle.params.proofs.AnswerLaws.{writes_not_sized, writes_sized}
+use Rattle.params.specs.Blocks.{block_bytes}
 use Rattle.params.proofs.write.Goals as goal
 
-pub returns-then-not-is_size : goal.returns-then-not-is_size
-returns-then-not-is_size c = let a = c.args in
-    writes_not_sized a.system a.size a.buffer.now (sym c.is_size.ensures ∙ c.if-not-is_size.true)
+pub returns-in-Cpm : goal.returns-in-Cpm
+unfolding block_bytes
+returns-in-Cpm c = rw c.in-Cpm.is c.put_block.ensures
 
-pub block_bytes-requires : goal.block_bytes-requires
-block_bytes-requires c = sym c.is_size.ensures ∙ c.if-not-is_size.false
-
-pub returns : goal.returns
-returns c =
-    let a = c.args in
-    writes_sized a.system a.size a.buffer.now (sym c.is_size.ensures ∙ c.if-not-is_size.false) (rw c.block_bytes.ensures at c.put_block.ensures)
+pub returns-in-Msdos : goal.returns-in-Msdos
+unfolding block_bytes
+returns-in-Msdos c = rw c.in-Msdos.is c.put_block-in-Msdos.ensures
