@@ -5,7 +5,7 @@ use Rattle.rows.proofs.IndexLaws.{all_at}
 use Rattle.rows.proofs.RowLaws.{length_row}
 use Rattle.rows.specs.Numbers.{bit_at}
 use Rattle.rows.specs.Rows.{row}
-use Rattle.std.proofs.Common.{◌≡◌, ◌<◌, sym, ◌∙◌, arith}
+use Rattle.std.proofs.Common.{◌<◌, sym, ◌∙◌, arith}
 use Rattle.locks.proofs.is_good.Goals as goal
 
 pub rows_alone-requires : goal.rows_alone-requires
