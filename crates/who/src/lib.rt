@@ -37,7 +37,6 @@ pub struct Station {
 }
 
 // The record of a station.
-#[tactic(auto, unfolding(crate::specs::Records::bytes_of, crate::specs::Records::flag, rows::specs::Numbers::low_bytes))]
 fn bytes_of(s: Station) -> [u8; 18]
     ensures { result ≡ bytes_of s }
 {
