@@ -14,10 +14,9 @@ use Rattle.frames.specs.declared.Command.{Command}
 use Rattle.frames.specs.declared.Command.TheVariants.{Acknowledge, Read, Write, Login, Assign, Lock, Unlock, Clear, Logout}
 use Rattle.frames.specs.declared.Request.{Request}
 use Rattle.frames.specs.Reading.{request_in}
-use Rattle.site.specs.declared.Placed.{Placed}
 use Rattle.site.specs.Rules.{good_site}
 use Rattle.site.specs.Faults.{first_fault, checked}
-use Rattle.site.specs.Places.{placed_in, placed_by}
+use Rattle.site.specs.Places.{Placed, placed_in, placed_by}
 use Rattle.site.proofs.PlaceLaws.{placed_low}
 use Rattle.master.proofs.EffectLaws.{unless_keeps}
 use Rattle.master.proofs.Outcomes.{told_number}

@@ -11,18 +11,20 @@ use lib.Seq.{take_all, take_at}
 use borrow.Author.Tests.{ne_eqb, lt-ltb, le-ltb, ltb-true, ltb-false}
 use Rattle.rows.proofs.BoolLaws.{by_test, by_eq, either}
 pub use Rattle.rows.proofs.NumberLaws.{Bytes}
+use Rattle.std.specs.Prelude.{Result}
+use Rattle.refusals.specs.declared.Refusal.{Refusal}
+use Rattle.refusals.specs.Outcomes.{GivesUnless}
 use Rattle.rows.specs.Outcomes.{Gives}
 use Rattle.rows.specs.Rows.{part, over}
 use Rattle.terms.specs.declared.Address.{Address}
 use Rattle.terms.specs.declared.LockString.{LockString}
 use Rattle.frames.specs.declared.Command.{Command}
 use Rattle.frames.specs.declared.Request.{Request}
-use Rattle.frames.specs.declared.Reading.{Reading}
 use Rattle.frames.specs.Table.{frame_length, carries_address}
 use Rattle.frames.specs.Requests.{plain, carried}
-use Rattle.frames.specs.Reading.{code, refusal_of, request_in, reading_of}
+use Rattle.frames.specs.Reading.{Reading, code, refusal_of, request_in, reading_of}
 use Rattle.frames.specs.Writing.{code_of, frame_of, written_of, buffer_after}
-use Rattle.frames.proofs.ReadLaws.{well_is}
+use Rattle.frames.proofs.ReadLaws.{code_kept}
 use Rattle.frames.proofs.WriteLaws.{frame_long}
 use Rattle.frames.proofs.FieldLaws.{fields_read}
 pub use Rattle.frames.proofs.RoundTrips.{Sized, TrackFits, Typed}
@@ -32,7 +34,9 @@ use Rattle.master.specs.Answers.{answers, frame_made, request_of}
 use Rattle.hinet.specs.Packing.{word, refusal_in, told_in}
 use Rattle.hinet.specs.Entries.{address_of}
 use Rattle.hinet.specs.FrameEntries.{byte_field, fields_for, disk_of, named_of, login_of, string_of, frame_told, Composes, read_told, read_word}
+use Rattle.hinet.specs.Tellings.{either_told}
 use Rattle.hinet.proofs.PackLaws.{choice_tells, refused_choice}
+use Rattle.hinet.proofs.TellingLaws.{refusal_tells, gives_tells}
 
 -- all of a list is its part from 0 on
 pub part_all : (l : List ℕ) (n : ℕ) → length l ≡ n → part l 0 n ≡ l
@@ -53,17 +57,19 @@ pub disk_composed : (c : ℕ → Address → Command) (src v p t x : ℕ) (b : L
 unfolding disk_of
 disk_composed c src v p t x b e i j done = composed b (e ∙ ap₂ (λ (s : ℕ) (a : Address). plain (c s a)) i j) done
 
--- what a reading refuses, and the first byte of a frame that reads well
-pub reading_refusal : (f : List ℕ) (r : Reading) → Gives (reading_of f) r → r.refusal ≡ refusal_of f
+-- what a reading refuses
+reading_refuses : (f : List ℕ) → (reading_of f).refusal ≡ refusal_of f
 unfolding reading_of
-reading_refusal f r done = ap (λ (x : Reading). x.refusal) done.answer ∙ by_eq (refusal_of f) 0 (λ z. rw z) (λ ne. rw (ne_eqb (refusal_of f) 0 ne))
+reading_refuses f = by_eq (refusal_of f) 0 (λ z. rw z) (λ ne. rw (ne_eqb (refusal_of f) 0 ne))
 
-pub well_starts : (f : List ℕ) → refusal_of f ≡ 0 → 0 < length f
-well_starts f z = let w = well_is f z in by_eq (length f) 0 (λ e. absurd (w.known (sym w.long ∙ e))) (λ ne. omega arith)
-
-pub read_refused : (f : List ℕ) (k : ℕ) → k ≡ refusal_of f → (k ≡ 0 → ⊥) → k ≡ read_word f
-unfolding read_word read_told word
-read_refused f k e ne = rw (sym e, ne_eqb k 0 ne)
+-- a frame read tells the code of its request, which is its first byte
+pub read_tells : (f : List ℕ) (r : Result Request Refusal) → GivesUnless (reading_of f).refusal (reading_of f).request r → either_told (λ (q : Request). answers (request_of (code_of q.command))) refusal_tells r ≡ read_told f
+unfolding reading_of read_told
+read_tells f r given =
+    gives_tells (λ (q : Request). answers (request_of (code_of q.command))) _ _ r _ given refl
+    ∙ by_eq (refusal_of f) 0
+    (λ z. rw z (ap (λ (k : ℕ). answers (request_of k)) (code_kept f z)))
+    (λ ne. rw (ne_eqb (refusal_of f) 0 ne, ne_eqb (refusal_of f) 0 ne))
 
 pub read_well : (f : List ℕ) → refusal_of f ≡ 0 → word (answers (request_of (code f))) ≡ read_word f
 unfolding read_word read_told
@@ -149,5 +155,5 @@ module _ (q : Request) (typed : Typed q) (b : List ℕ) (r : ℕ) (b' : List ℕ
   unfolding frame_of carried
   composed_reads_back z x read =
       let stands : take (length (frame_of q)) b' ≡ frame_of q = rw (composed_is_frame z).2 (take_at (frame_of q) (drop (length (frame_of q)) b) (length (frame_of q)) refl) in
-      let well : refusal_of (frame_of q) ≡ 0 = sym (reading_refusal (frame_of q) (reading_of (frame_of q)) (record { answer = refl })) ∙ ap (λ (y : Reading). y.refusal) (reads_back q typed) in
+      let well : refusal_of (frame_of q) ≡ 0 = sym (reading_refuses (frame_of q)) ∙ ap (λ (y : Reading). y.refusal) (reads_back q typed) in
       (read.answer ∙ ap read_word stands ∙ sym (read_well (frame_of q) well), ap request_in stands ∙ fields_read q.command q typed.sized typed.track)

@@ -1,6 +1,7 @@
 pub mod PlaceLaws
 pub mod PackLaws
 pub mod TellLaws
+pub mod TellingLaws
 pub mod FrameLaws
 pub mod DiskLaws
 pub mod EntryLaws

@@ -10,26 +10,17 @@ use borrow.Author.Tests.{ne_eqb}
 use Rattle.rows.proofs.BoolLaws.{by_test, by_eq}
 use Rattle.rows.proofs.NumberLaws.{Bytes}
 use Rattle.framing.specs.Frame.{frame_bits}
-use Rattle.framing.specs.Writing.{write_refusal, written_of, bits_after}
-use Rattle.framing.specs.Reading.{line_refusal, user_in, data_in, read_unless, read_refusal, put_unless}
+use Rattle.framing.specs.Writing.{write_refusal, bits_after}
+use Rattle.framing.specs.Reading.{line_refusal, user_in, data_in, read_refusal, put_unless}
 use Rattle.framing.proofs.Theorems.{longest, write_sized, write_small, read_ranges, read_good, read_small, line_small}
 use Rattle.master.specs.Answers.{answers, refusal_number, Answered, no_bytes, bits_of, line_of, answers_unless}
 use Rattle.master.specs.Effects.{unless}
 use Rattle.master.specs.Line.{line_effect, heard_effect}
 use Rattle.hinet.specs.Packing.{word, refusal_in, told_in}
-use Rattle.hinet.specs.LineEntries.{written_told, reading_told, LineWrites, LineReads, LineServed}
+use Rattle.hinet.specs.LineEntries.{LineWrites, LineReads, LineServed}
 use Rattle.hinet.proofs.PackLaws.{Tellable, choice_tells, refused_choice}
 use Rattle.hinet.proofs.TellLaws.{frame_fits}
 use Rattle.hinet.proofs.EntryLaws.{word_tells, untouched, frame_keeps}
-
--- what the library answers, as a choice
-pub written_choice : (user : ℕ) (d b : List ℕ) → written_told (written_of user d b) ≡ answers_unless (write_refusal user d b) (bits_of (length (frame_bits user d)))
-unfolding written_of written_told
-written_choice user d b = by_test (eqb (write_refusal user d b) 0) (λ t. rw t) (λ f. rw f)
-
-pub read_choice : (k : ℕ) (s : List ℕ) (n : ℕ) → reading_told (read_unless k s n) ≡ answers_unless k (line_of (user_in s n) (length (data_in s n)))
-unfolding read_unless reading_told
-read_choice k s n = by_test (eqb k 0) (λ t. rw t) (λ f. rw f)
 
 -- an entry with one refusal, whose answer fits where it is not refused
 module _ (k : ℕ) (small : k < 256) (a : Answered) (fits : k ≡ 0 → Tellable (answers a)) (r : ℕ) (e : r ≡ word (answers_unless k a)) where

@@ -5,19 +5,13 @@ use mathlib.Core.Path.{◌≡◌, refl, sym, ap, ◌∙◌}
 use mathlib.Core.Bool.{Bool, true, false, ◌&&◌}
 use lib.Dec.{eqb}
 use borrow.Author.Tests.{eqb-false, ne_eqb}
-use mir.Val.{bool_byte}
 use Rattle.rows.proofs.BoolLaws.{by_test}
 use Rattle.who.specs.Records.{flag}
 use Rattle.master.proofs.Outcomes.{refused_no_answer}
 use Rattle.master.specs.Answers.{Told, refuses, refuses_site, answers, refusal_number, Answered, no_bytes, status_byte, assign_bytes, place_at, login_as, turn_was, frame_made, request_of, bits_of, line_of, honor_flag, answers_unless}
 use Rattle.hinet.specs.Packing.{STATUS, ASSIGN, PLACE, LOGIN, TURN, WRITTEN, FAULT, BITS, LINE, BOOT, REQUEST, word, refusal_in, kind_in, bytes_in, told_in, answered_in, flag_in}
 
--- a flag as a byte
-pub flag_byte : (b : Bool) → bool_byte b ≡ flag b
-unfolding flag
-flag_byte true = refl
-flag_byte false = refl
-
+-- a flag
 pub flag_small : (b : Bool) → flag b ≤ 1
 unfolding flag
 flag_small true = omega arith

@@ -11,11 +11,10 @@ use Rattle.rows.proofs.BoolLaws.{by_test, and_left, and_right}
 use Rattle.rows.proofs.IndexLaws.{none_from, first_below}
 use Rattle.terms.specs.declared.Address.{Address}
 use Rattle.site.specs.declared.PartitionRow.{PartitionRow}
-use Rattle.site.specs.declared.Located.TheVariants.{At}
 use Rattle.site.specs.Layout.{partitions, partition_row}
 use Rattle.site.specs.Rules.{sectors, ranged, numbered, partition_numbered, good_site}
 use Rattle.site.specs.Found.{index_of_number}
-use Rattle.site.specs.Places.{inside, refused, placed_on, placed_in, placed_by}
+use Rattle.site.specs.Places.{At, inside, refused, placed_on, placed_in, placed_by}
 use Rattle.site.proofs.RuleLaws.{ranged_is, site_partition}
 use Rattle.site.proofs.PlaceLaws.{inside_is}
 use Rattle.hinet.specs.Entries.{address_of}

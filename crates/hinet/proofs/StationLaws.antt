@@ -1,5 +1,5 @@
 -- The station's entries: the words of its steps and of the frame it sends, and what the C program can rely on.
-use Prim.Native.Nat.{ℕ, zero, suc, min, ◌<◌}
+use Prim.Native.Nat.{ℕ, min, ◌<◌}
 use native.Mathlib.Omega.{arith}
 use mathlib.Core.Path.{◌≡◌, refl, ap, ◌∙◌}
 use mathlib.Core.Bool.{Bool, true, false, cond, not, ◌&&◌}
@@ -8,6 +8,9 @@ use lib.Dec.{eqb, ltb}
 use lib.ListN.{length}
 use borrow.Author.Tests.{ne_eqb, ltb-true, ltb-false}
 use Rattle.rows.proofs.BoolLaws.{by_test, by_eq, either}
+use Rattle.std.specs.Prelude.{Result}
+use Rattle.refusals.specs.declared.Refusal.{Refusal}
+use Rattle.refusals.specs.Outcomes.{refusal_in as refused_by}
 use Rattle.terms.specs.Strings.{legal}
 use Rattle.frames.specs.Table.{LOCK, UNLOCK, CLEAR}
 use Rattle.station.specs.State.{list_of, wait_of, is_full, code_in, asked_in}
@@ -19,17 +22,14 @@ use Rattle.hinet.specs.Packing.{word, refusal_in, told_in}
 use Rattle.hinet.specs.StationEntries.{step_told, Steps, Takes, Sends}
 use Rattle.hinet.specs.FrameEntries.{frame_told}
 use Rattle.hinet.proofs.PackLaws.{choice_tells, refused_choice}
-use Rattle.master.specs.Answers.{no_bytes, frame_made}
-
--- the word of a step is its refusal, 0 for none
-pub step_word : (k : ℕ) → word (step_told k) ≡ k
-unfolding word step_told
-step_word zero = refl
-step_word (suc k) = rw (ne_eqb (suc k) 0 (λ e. omega arith))
+use Rattle.master.specs.Answers.{answers, no_bytes, frame_made, answers_unless}
+use Rattle.hinet.specs.Tellings.{either_told}
+use Rattle.hinet.proofs.TellingLaws.{refusal_tells, step_tells}
 
 -- the entries over what the crate station promises
-pub stepped : (k : ℕ) (after st : List ℕ) {k' r : ℕ} {st' : List ℕ} → r ≡ word (step_told k') → StepLeaves k after st k' st' → Steps k after st r st'
-stepped k after st e done = record { answer = e ∙ ap (λ k. word (step_told k)) done.answer; left = done.left }
+pub stepped : (k : ℕ) (after st : List ℕ) (x : Result (Unit {0}) Refusal) {r : ℕ} {st' : List ℕ} → r ≡ word (either_told (λ _. answers no_bytes) refusal_tells x) → StepLeaves k after st (refused_by x) st' → Steps k after st r st'
+unfolding step_told
+stepped k after st x e done = record { answer = e ∙ ap word (step_tells no_bytes x ∙ ap (λ k. answers_unless k no_bytes) done.answer); left = done.left }
 
 -- no request lists a reply above 82 hex, so that one which is too large for a byte may become the largest
 none_fits : (code n : ℕ) → 0x82 < n → fits code n ≡ false
@@ -44,16 +44,16 @@ none_fits code n large =
     go false false true = refl
     go false false false = refl
 
-pub reply_taken : (st : List ℕ) (n : ℕ) {k r : ℕ} {st' : List ℕ} → r ≡ word (step_told k) → Replies st (min n 255) k st' → Takes st n r st'
+pub reply_taken : (st : List ℕ) (n : ℕ) (x : Result (Unit {0}) Refusal) {r : ℕ} {st' : List ℕ} → r ≡ word (either_told (λ _. answers no_bytes) refusal_tells x) → Replies st (min n 255) (refused_by x) st' → Takes st n r st'
 unfolding reply_refusal
-reply_taken st n e done = by_test (ltb n 256)
+reply_taken st n x e done = by_test (ltb n 256)
     (λ y.
     let same : min n 255 ≡ n = omega (arith, ltb-true n 256 y) in
-    stepped _ _ _ e (rw same at done))
+    stepped _ _ _ x e (rw same at done))
     (λ m.
     let cut = none_fits (code_in (wait_of st)) (min n 255) (omega (arith, ltb-false n 256 m)) in
     let large = none_fits (code_in (wait_of st)) n (omega (arith, ltb-false n 256 m)) in
-    stepped _ _ _ e (record { answer = done.answer ∙ rw (cut, large); left = done.left ∙ by_test (good_state st) (λ g. rw (g, cut, large)) (λ b. rw b) }))
+    stepped _ _ _ x e (record { answer = done.answer ∙ rw (cut, large); left = done.left ∙ by_test (good_state st) (λ g. rw (g, cut, large)) (λ b. rw b) }))
 
 -- every refusal is a byte
 pub fresh_small : (st : List ℕ) → fresh_refusal st < 256

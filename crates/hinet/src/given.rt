@@ -20,6 +20,7 @@ fn track_of(track: u32) -> Track
 }
 
 // An address for the fields of a frame.
+#[tactic(auto, unfolding(crate::specs::FrameEntries::fields_for, crate::specs::Entries::address_of))]
 pub fn address_of(volume: u32, partition: u32, track: u32, sector: u32) -> Address
     ensures { result ≡ fields_for volume partition track sector }
 {

@@ -31,12 +31,11 @@ pub fn hinet_fresh(locks: &mut [u8], stations: &mut [u8]) -> u64
 pub fn hinet_check_tables(locks: &[u8], stations: &[u8]) -> u64
     ensures { Gives (tables_word locks.now stations.now) result }
 {
-    let checked = if master::tables_good(locks, stations) {
-        Ok(())
+    if master::tables_good(locks, stations) {
+        0
     } else {
-        Err(Refusal::BadTables)
-    };
-    checked.pack()
+        Refusal::BadTables.pack()
+    }
 }
 
 // 10 with the first fault, or 0 where the site file is good.

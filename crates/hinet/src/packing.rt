@@ -2,6 +2,7 @@
 ghost use Rattle.std.specs.Prelude.{◌≡◌, ◌+◌, ◌*◌, ◌<◌, ◌^◌, Result, Ok, Err};
 ghost use Rattle.refusals.specs.Refusals.{number};
 ghost use Rattle.site.specs.Faults.{breach_number as number_of};
+ghost use Rattle.frames.specs.Codes.{byte_of};
 ghost use Rattle.boot.specs.Honors.{flag_of};
 ghost use Rattle.master.specs.Answers.{Told, refuses, refuses_site, answers, no_bytes, frame_made, request_of, bits_of, line_of, honor_flag, fault_told, told as answer_told, turn_told};
 ghost use Rattle.master.specs.Line.{received_told};
@@ -9,6 +10,7 @@ ghost use Rattle.hinet.specs.Packing.{word, kind_number};
 ghost use Rattle.hinet.specs.Tellings.{either_told};
 
 use boot::Honor;
+use frames::Code;
 use framing::Heading;
 use master::{Answer, Received, Turned};
 use refusals::Refusal;
@@ -59,6 +61,7 @@ impl Kind {
 impl Packed for () {
     ghost tells = { λ _. answers no_bytes };
 
+    #[tactic(auto, unfolding(crate::specs::Packing::word))]
     fn pack(self) -> u64 {
         0
     }
@@ -67,12 +70,14 @@ impl Packed for () {
 impl Packed for Refusal {
     ghost tells = { λ refusal. refuses (number refusal) };
 
+    #[tactic(auto, unfolding(crate::specs::Packing::word))]
     fn pack(self) -> u64 {
         u64::from(self.number())
     }
 }
 
 // 1 range, 2 repeated name, 3 repeated volume and number, 4 overlap.
+#[tactic(auto, unfolding(site::specs::Faults::breach_number))]
 fn breach_number(breach: Breach) -> u8
     ensures { result ≡ number_of breach }
 {
@@ -85,6 +90,7 @@ fn breach_number(breach: Breach) -> u8
 }
 
 // Refusal 10 with part, row and breach.
+#[tactic(auto, unfolding(crate::specs::Packing::word))]
 fn pack_site(part: u8, row: u8, breach: Breach) -> u64
     ensures { result ≡ word (refuses_site part row (number_of breach)) }
 {
@@ -97,6 +103,7 @@ fn pack_site(part: u8, row: u8, breach: Breach) -> u64
 impl Packed for Fault {
     ghost tells = { fault_told };
 
+    #[tactic(auto, unfolding(master::specs::Answers::fault_told, site::specs::Faults::fault_part, site::specs::Faults::fault_row, site::specs::Faults::fault_breach))]
     fn pack(self) -> u64 {
         match self {
             Fault::InHeader => pack_site(0, 0, Breach::Range),
@@ -109,6 +116,7 @@ impl Packed for Fault {
 impl Packed for Refused {
     ghost tells = { λ refused. answer_told (Err refused) };
 
+    #[tactic(auto, unfolding(master::specs::Answers::told))]
     fn pack(self) -> u64 {
         match self {
             Refused::Site(fault) => fault.pack(),
@@ -121,6 +129,7 @@ impl Packed for Refused {
 impl<T: Packed, E: Packed> Packed for Result<T, E> {
     ghost tells = { either_told T.tells E.tells };
 
+    #[tactic(auto, unfolding(crate::specs::Tellings::either_told))]
     fn pack(self) -> u64 {
         match self {
             Ok(done) => done.pack(),
@@ -133,6 +142,7 @@ impl<T: Packed, E: Packed> Packed for Result<T, E> {
 impl Packed for Answer {
     ghost tells = { λ answer. answer_told (Ok answer) };
 
+    #[tactic(auto, unfolding(master::specs::Answers::told, crate::specs::Packing::word, who::specs::Records::flag))]
     fn pack(self) -> u64 {
         match self {
             Answer::Nothing => 0,
@@ -167,6 +177,7 @@ impl Packed for Answer {
 impl Packed for Turned {
     ghost tells = { λ turned. turn_told (Ok turned) };
 
+    #[tactic(auto, unfolding(master::specs::Answers::turn_told, crate::specs::Packing::word, who::specs::Records::flag))]
     fn pack(self) -> u64 {
         Kind::Turn.word(u64::from(self.due) + u64::from(self.out) * BYTE_1)
     }
@@ -179,20 +190,19 @@ pub struct Written(pub u8);
 impl Packed for Written {
     ghost tells = { λ written. answers (frame_made written.0) };
 
+    #[tactic(auto, unfolding(crate::specs::Packing::word))]
     fn pack(self) -> u64 {
         Kind::Written.word(u64::from(self.0))
     }
 }
 
 // A frame that reads well, by its code.
-#[derive(Clone, Copy)]
-pub struct Coded(pub u8);
+impl Packed for Code {
+    ghost tells = { λ code. answers (request_of (byte_of code)) };
 
-impl Packed for Coded {
-    ghost tells = { λ coded. answers (request_of coded.0) };
-
+    #[tactic(auto, unfolding(crate::specs::Packing::word))]
     fn pack(self) -> u64 {
-        Kind::Request.word(u64::from(self.0))
+        Kind::Request.word(u64::from(u8::from(self)))
     }
 }
 
@@ -203,6 +213,7 @@ pub struct Bits(pub u16);
 impl Packed for Bits {
     ghost tells = { λ bits. answers (bits_of bits.0) };
 
+    #[tactic(auto, unfolding(crate::specs::Packing::word))]
     fn pack(self) -> u64 {
         Kind::Bits.word(u64::from(self.0))
     }
@@ -212,6 +223,7 @@ impl Packed for Bits {
 impl Packed for Heading {
     ghost tells = { λ heading. answers (line_of heading.user heading.length) };
 
+    #[tactic(auto, unfolding(crate::specs::Packing::word))]
     fn pack(self) -> u64 {
         Kind::Line.word(u64::from(self.user) + u64::from(self.length) * BYTE_1)
     }
@@ -221,6 +233,7 @@ impl Packed for Heading {
 impl Packed for Received {
     ghost tells = { λ received. received_told (Ok received) };
 
+    #[tactic(auto, unfolding(master::specs::Line::received_told))]
     fn pack(self) -> u64 {
         match self {
             Received::Another(heading) => heading.pack(),
@@ -233,6 +246,7 @@ impl Packed for Received {
 impl Packed for Honor {
     ghost tells = { λ honor. answers (honor_flag (flag_of honor)) };
 
+    #[tactic(auto, unfolding(crate::specs::Packing::word))]
     fn pack(self) -> u64 {
         Kind::Boot.word(u64::from(u8::from(self)))
     }

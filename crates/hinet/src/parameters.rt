@@ -9,9 +9,10 @@ use params::System;
 fn write_block(system: System, size: u32, buffer: &mut [u8]) -> u64
     ensures { Parameters system size buffer.old result buffer.new }
 {
-    params::write(system, size, buffer)
-        .map(|()| Written(params::BYTES as u8))
-        .pack()
+    match params::write(system, size, buffer) {
+        Ok(()) => Written(params::BYTES as u8).pack(),
+        Err(refusal) => refusal.pack(),
+    }
 }
 
 // CP/M 2.2's disk parameter block.

@@ -8,8 +8,8 @@ ghost use Rattle.frames.specs.Requests.{plain};
 ghost use Rattle.hinet.specs.FrameEntries.{disk_of, logout_of, login_of, named_of, string_of, Composes, read_word};
 
 use crate::given;
-use crate::packing::{Coded, Packed, Written};
-use frames::{Command, Request};
+use crate::packing::{Packed, Written};
+use frames::{Code, Command, Request};
 
 // Writes the frame of a request. No frame is longer than a byte says.
 fn compose(q: Request, buffer: &mut [u8]) -> u64
@@ -36,6 +36,7 @@ pub fn hinet_write_acknowledge(buffer: &mut [u8]) -> u64
 }
 
 // 11: read the sector at an address.
+#[tactic(auto, unfolding(crate::specs::FrameEntries::disk_of))]
 pub fn hinet_write_read(
     src: u32,
     volume: u32,
@@ -52,6 +53,7 @@ pub fn hinet_write_read(
 }
 
 // 12: write the sector at an address.
+#[tactic(auto, unfolding(crate::specs::FrameEntries::disk_of))]
 pub fn hinet_write_write(
     src: u32,
     volume: u32,
@@ -68,6 +70,7 @@ pub fn hinet_write_write(
 }
 
 // A request with name and password.
+#[tactic(auto, unfolding(crate::specs::FrameEntries::named_of, frames::specs::Requests::plain))]
 fn named(command: Command, name: &[u8; 8], password: &[u8; 6]) -> Request
     ensures { result ≡ named_of command name.now password.now }
 {
@@ -79,6 +82,7 @@ fn named(command: Command, name: &[u8; 8], password: &[u8; 6]) -> Request
 }
 
 // 13: login.
+#[tactic(auto, unfolding(crate::specs::FrameEntries::named_of, crate::specs::FrameEntries::login_of))]
 pub fn hinet_write_login(
     name: &[u8; 8],
     password: &[u8; 6],
@@ -103,6 +107,7 @@ pub fn hinet_write_assign(name: &[u8; 8], password: &[u8; 6], buffer: &mut [u8])
 }
 
 // The frame of a command with a lock string.
+#[tactic(auto, unfolding(crate::specs::FrameEntries::string_of, frames::specs::Requests::plain))]
 fn write_string(command: Command, lockstring: &[u8; 14], buffer: &mut [u8]) -> u64
     ensures { Composes (string_of command (string_at lockstring.now 0)) buffer.old result buffer.new }
 {
@@ -135,6 +140,7 @@ pub fn hinet_write_clear(buffer: &mut [u8]) -> u64
 }
 
 // 1F: instant logout.
+#[tactic(auto, unfolding(crate::specs::FrameEntries::logout_of))]
 pub fn hinet_write_logout(src: u32, buffer: &mut [u8]) -> u64
     ensures { Composes (logout_of src) buffer.old result buffer.new }
 {
@@ -147,7 +153,7 @@ pub fn hinet_read_frame(frame: &[u8]) -> u64
     ensures { Gives (read_word frame.now) result }
 {
     match frames::read(frame) {
-        Ok(_) => Coded(frame[0]).pack(),
+        Ok(request) => Code::from(request.command).pack(),
         Err(refusal) => refusal.pack(),
     }
 }

@@ -9,9 +9,8 @@ use lib.Seq.{drop-drop}
 use Rattle.rows.specs.Rows.{over}
 use Rattle.rows.proofs.RowLaws.{over_next}
 use Rattle.lines.proofs.LineLaws.{line_long}
-use Rattle.session.specs.declared.block.Played.{Played}
 use Rattle.session.specs.Records.{number, frame, record_size, whole}
-use Rattle.session.specs.Session.{Stand, Outcome, served, next_line, next, still, after, play_in, play, Adds, Plays}
+use Rattle.session.specs.Session.{Stand, Outcome, Played, served, next_line, next, still, after, play_in, play, Adds, Plays}
 use Rattle.session.proofs.RecordLaws.{Whole, broken_short}
 use Rattle.master.specs.Frames.{frame_effect}
 

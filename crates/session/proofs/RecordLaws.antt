@@ -1,16 +1,15 @@
 -- The laws of specs/Records.antt: when a record is whole, and where its parts stand in a block.
 use Prim.Native.Nat.{ℕ, ◌+◌, ◌-◌, ◌≤◌, ◌<◌}
-use native.Mathlib.Nat.{add-zero}
 use native.Mathlib.Omega.{arith}
-use mathlib.Core.Path.{◌≡◌, sym, ap, ◌∙◌}
+use mathlib.Core.Path.{◌≡◌}
 use mathlib.Core.Bool.{true, false}
 use mathlib.Core.List.{List}
-use lib.ListN.{length, drop, get_or, length-drop}
-use lib.Seq.{get_or-drop, drop-drop}
-use borrow.Author.Tests.{leb-true, leb-false, le-leb, lt-leb}
-use Rattle.rows.proofs.BoolLaws.{by_test}
+use lib.ListN.{length, take, drop, get_or, length-drop}
+use lib.Seq.{get_or-drop, length-take-le}
+use Rattle.std.proofs.lemmas.List.{get_or-take, drop-take, take_rest}
+use borrow.Author.Tests.{leb-true, leb-false}
 use Rattle.rows.specs.Rows.{part}
-use Rattle.session.specs.Records.{number, frame_size, frame, record_size, whole, whole_size}
+use Rattle.session.specs.Records.{number, frame_size, frame, record_size, whole}
 
 -- what is known of a whole record of n bytes at `at` in a block f
 pub record Whole (f : List ℕ) (at n : ℕ) : Type 0 where
@@ -19,48 +18,44 @@ pub record Whole (f : List ℕ) (at n : ℕ) : Type 0 where
   pub more : 2 ≤ n
   pub inside : at + n ≤ length f
 
--- a size that is not 0 is that of a whole record
-pub whole_is : (f : List ℕ) (at n : ℕ) → at ≤ length f → n ≡ whole_size (drop at f) → (n ≡ 0 → ⊥) → Whole f at n
-unfolding whole_size record_size whole
-whole_is f at n a e h = by_test (whole (drop at f))
-    (λ y. let size : n ≡ record_size (drop at f) = e ∙ rw y in
-    record { is = y; size = size; more = omega arith; inside = omega (arith, leb-true (record_size (drop at f)) (length (drop at f)) y, length-drop at f) })
-    (λ m. absurd (h (e ∙ rw m)))
+-- what is left of a block f from `at` on, as a slice
+abbrev pub left_of : List ℕ → ℕ → List ℕ
+left_of f at = take (length f - at) (drop at f)
 
--- and 0 that of none
-pub broken_is : (r : List ℕ) (n : ℕ) → n ≡ whole_size r → n ≡ 0 → whole r ≡ false
-unfolding whole_size record_size
-broken_is r n e z = by_test (whole r)
-    (λ y. let size : n ≡ record_size r = e ∙ rw y in absurd (omega arith))
-    (λ m. m)
+-- what is known of a record r that was found whole there
+pub record Found (f : List ℕ) (at : ℕ) (r : List ℕ) : Type 0 where
+  pub whole : Whole f at (length r)
+  pub number : number r ≡ number (drop at f)
+  pub frame : drop 2 r ≡ frame (drop at f)
 
--- fewer than two bytes, or fewer than the length byte says
-pub size_none : (r : List ℕ) → length r < 2 → 0 ≡ whole_size r
-unfolding whole_size whole record_size frame_size
-size_none r h = rw (lt-leb (record_size r) (length r) (omega arith))
+module _ (f : List ℕ) (at : ℕ) (r : List ℕ) (inside : at ≤ length f) (is : whole (drop at f) ≡ true) (bytes : r ≡ take (record_size (drop at f)) (drop at f)) where
+  there : record_size (drop at f) ≤ length (drop at f)
+  unfolding whole
+  there = leb-true (record_size (drop at f)) (length (drop at f)) is
 
-pub size_short : (r : List ℕ) → length r < record_size r → 0 ≡ whole_size r
-unfolding whole_size whole
-size_short r h = rw (lt-leb (record_size r) (length r) h)
+  long : length r ≡ record_size (drop at f)
+  long = rw bytes (length-take-le (record_size (drop at f)) (drop at f) there)
 
-pub size_full : (r : List ℕ) → record_size r ≤ length r → record_size r ≡ whole_size r
-unfolding whole_size whole
-size_full r h = rw (le-leb (record_size r) (length r) h)
+  found_whole : Whole f at (length r)
+  unfolding record_size
+  found_whole = record { is = is; size = long; more = omega (arith, long); inside = omega (arith, long, there, length-drop at f) }
 
--- the parts of the record at `at` in a block f
-pub number_at : (f : List ℕ) (at : ℕ) → get_or f at 0 ≡ number (drop at f)
-unfolding number
-number_at f at = sym (get_or-drop at f 0 0 ∙ ap (λ (k : ℕ). get_or f k 0) (add-zero at))
+  found_number : number r ≡ number (drop at f)
+  unfolding number record_size
+  found_number = rw bytes (get_or-take (record_size (drop at f)) (drop at f) 0 0 (omega arith))
 
-pub size_at : (f : List ℕ) (at b : ℕ) → b ≡ get_or f (at + 1) 0 → 2 + b ≡ record_size (drop at f)
-unfolding record_size frame_size
-size_at f at b e = ap (λ (k : ℕ). 2 + k) (e ∙ sym (get_or-drop at f 1 0))
+  found_frame : drop 2 r ≡ frame (drop at f)
+  unfolding part frame record_size
+  found_frame = rw bytes (drop-take 2 (frame_size (drop at f)) (drop at f))
 
-pub frame_at : (f : List ℕ) (at n : ℕ) → n ≡ record_size (drop at f) → part f (at + 2) (n - 2) ≡ frame (drop at f)
-unfolding part frame record_size
-frame_at f at n e =
-    let m : n - 2 ≡ frame_size (drop at f) = omega arith in
-    rw (m, drop-drop 2 at f)
+  found_here : Found f at r
+  found_here = record { whole = found_whole; number = found_number; frame = found_frame }
+
+pub found : (f : List ℕ) (at : ℕ) (r : List ℕ) → at ≤ length f → (whole (left_of f at) ≡ true) × (r ≡ take (record_size (left_of f at)) (left_of f at)) → Found f at r
+found f at r inside h = let e = rw (take_rest f at) at h in found_here f at r inside e.0 e.1
+
+pub none_found : (f : List ℕ) (at : ℕ) → whole (left_of f at) ≡ false → whole (drop at f) ≡ false
+none_found f at h = rw (take_rest f at) at h
 
 -- what stands at `at` and is not whole is shorter than the longest record
 pub broken_short : (f : List ℕ) (at : ℕ) → whole (drop at f) ≡ false → get_or f (at + 1) 0 < 256 → length f ≤ at + 256

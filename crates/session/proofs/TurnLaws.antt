@@ -2,18 +2,24 @@
 use Prim.Native.Nat.{ℕ, ◌+◌, ◌-◌, ◌≤◌}
 use native.Mathlib.Omega.{arith}
 use mathlib.Core.Path.{◌≡◌, sym, ap, ◌∙◌}
+use Rattle.std.specs.Prelude.{Result, Ok, Err, Some, IfOk}
+use Rattle.std.specs.Result.{result_ok}
 use mathlib.Core.List.{List, ◌++◌}
 use lib.ListN.{length, take, drop, take-append-drop}
 use lib.Seq.{take-take, take-add, take_at, drop_at, length-take-le}
 use Rattle.rows.proofs.RowLaws.{length_part, over_first}
 use Rattle.rows.specs.Rows.{part, put}
-use Rattle.session.specs.declared.block.Played.{Played}
-use Rattle.session.specs.Session.{Plays, between, Takes}
+use Rattle.session.specs.Session.{Played, Plays, between, Takes}
 
 -- n bytes from `at` on are those that follow `at` in a list that ends with them
 part_last : (l : List ℕ) (at n : ℕ) → at ≤ length l → part l at n ≡ drop at (take (at + n) l)
 unfolding part
 part_last l at n h = sym (rw (take-add at n l) (drop_at (take at l) (take n (drop at l)) at (length-take-le at l h)))
+
+-- where an attempt to read that gave a value then ended
+pub read_ends : {E : Type 0} (kept n : ℕ) (r : Result ℕ E) {end : ℕ} → Some end ≡ result_ok r → IfOk r (λ e. (kept ≤ e) × (e ≤ n)) → (kept ≤ end) × (end ≤ n)
+read_ends kept n (Ok x) {end} e h = let same : x ≡ end = cc in rw same at h
+read_ends kept n (Err x) e h = cc
 
 -- of l, which holds the bytes that waited and those read up to `end`, what was not played is moved to the start
 pub takes : (s input l : List ℕ) (kept i end : ℕ) (t w o : List ℕ) (r : Played) (t' w' o' input' : List ℕ)

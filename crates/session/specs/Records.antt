@@ -1,5 +1,5 @@
 -- The record at the front of the input: number polled (1 byte), length (1 byte), frame.
-use Rattle.std.specs.Prelude.{ℕ, ◌+◌, Bool, cond, List, leb, length, get_or}
+use Rattle.std.specs.Prelude.{ℕ, ◌+◌, Bool, List, leb, length, get_or}
 use Rattle.rows.specs.Rows.{part}
 
 unfoldable pub number : List ℕ → ℕ
@@ -17,7 +17,3 @@ record_size input = 2 + frame_size input
 -- all of its bytes are there. A missing length byte counts as 0, and then fewer than two bytes are there
 unfoldable pub whole : List ℕ → Bool
 whole input = leb (record_size input) (length input)
-
--- its bytes, 0 where it is not whole
-unfoldable pub whole_size : List ℕ → ℕ
-whole_size input = cond (whole input) (record_size input) 0

@@ -21,8 +21,9 @@ pub struct Played {
 }
 
 // The record at the front of the input, where it is whole.
+#[tactic(auto, unfolding(crate::specs::Records::whole, crate::specs::Records::record_size, crate::specs::Records::frame_size))]
 fn first_record(input: &[u8]) -> Option<&[u8]>
-    ensures { MatchOption result (whole input.now ≡ false) (λ record. (whole input.now ≡ true) × (record.now ≡ take (record_size input.now) input.now)) }
+    ensures { MatchOption result (whole input.now ≡ false) (λ front. (whole input.now ≡ true) × (front.now ≡ take (record_size input.now) input.now)) }
 {
     let size = 2 + usize::from(*input.get(1)?);
     input.get(..size)

@@ -83,7 +83,7 @@ fn play_records<R: Input + Print + Errors>(rt: &R, site: &[u8]) {
     let mut input = room_for_input();
     let mut output = room_for_lines();
     let mut kept = 0;
-    for turn in 0..TURNS {
+    for _turn in 0..TURNS {
         let taken = take_turn(rt, &mut reader, &mut session, kept, &mut input, &mut output);
         let Some(rest) = taken else {
             return;
