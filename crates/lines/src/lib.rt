@@ -3,7 +3,7 @@
 
 ghost use Rattle.std.specs.Prelude.{◌≡◌, List, ℕ, [], ◌∷◌, ◌++◌, ◌+◌, ◌≤◌, ◌<◌, length};
 ghost use Rattle.master.specs.Answers.{told, refusal_number};
-ghost use Rattle.lines.specs.Line.{digit as digit_of, decimal, hex_byte, yes_or_no, answer_text, column, columns, line_text, COLON, ROOM as ROOM_OF, Writes};
+ghost use Rattle.lines.specs.Line.{digit as digit_of, decimal, hex_byte, yes_or_no, answer_text, column, columns, line_text, COLON, ROOM, Writes};
 
 use arrayvec::ArrayVec;
 use itoa::Buffer;
@@ -13,12 +13,12 @@ use std::marker::Model;
 use terms::{Partition, Place, Volume};
 
 // Room for a line, of which none takes more than 87 bytes.
-const ROOM: usize = 96;
+const BYTES: usize = 96;
 
 // The text so far of a line: it is put together here, and put down at once.
 #[derive(Drop)]
 struct Line {
-    text: ArrayVec<u8, ROOM>,
+    text: ArrayVec<u8, BYTES>,
 }
 
 impl Model for Line {
@@ -36,7 +36,7 @@ fn digit(d: u8) -> u8
     if d < 10 { b'0' + d } else { b'A' + (d - 10) }
 }
 
-// Y for yes.
+// Y or N.
 #[tactic(auto, unfolding(crate::specs::Line::yes_or_no))]
 fn yes_or_no(found: bool) -> u8
     ensures { result ≡ yes_or_no found }
@@ -45,6 +45,7 @@ fn yes_or_no(found: bool) -> u8
 }
 
 impl Line {
+    // A line with no text yet.
     fn new() -> Line
         ensures { result ≡ [] }
     {
@@ -53,17 +54,19 @@ impl Line {
         }
     }
 
+    // One character.
     fn byte(&mut self, b: u8)
-        requires { length self.old + 1 ≤ 96 }
+        requires { length self.old + 1 ≤ ROOM }
         ensures text { self.new ≡ self.old ++ b ∷ [] }
         ensures len { length self.new ≡ length self.old + 1 }
     {
         self.text.push(b);
     }
 
+    // A number in decimal, with no zero in front.
     #[tactic(auto, using(crate::proofs::LineLaws::decimals))]
     fn decimal(&mut self, n: u64)
-        requires { length self.old + 20 ≤ 96 }
+        requires { length self.old + 20 ≤ ROOM }
         ensures text { self.new ≡ self.old ++ decimal n }
         ensures len { length self.new ≤ length self.old + 20 }
     {
@@ -73,9 +76,10 @@ impl Line {
             .unwrap();
     }
 
+    // A byte as two capital digits.
     #[tactic(auto, using(crate::proofs::LineLaws::appending), unfolding(crate::specs::Line::hex_byte))]
     fn hex(&mut self, b: u8)
-        requires { length self.old + 2 ≤ 96 }
+        requires { length self.old + 2 ≤ ROOM }
         ensures text { self.new ≡ self.old ++ hex_byte b }
         ensures len { length self.new ≡ length self.old + 2 }
     {
@@ -86,7 +90,7 @@ impl Line {
     // Size code, partition number, control, volume.
     #[tactic(auto, using(crate::proofs::LineLaws::appending))]
     fn assigned(&mut self, size: u8, partition: Partition, control: u8, volume: Volume)
-        requires { length self.old + 8 ≤ 96 }
+        requires { length self.old + 8 ≤ ROOM }
         ensures { self.new ≡ self.old ++ (hex_byte size ++ (hex_byte partition.0 ++ (hex_byte control ++ hex_byte volume.0))) }
     {
         self.hex(size);
@@ -98,7 +102,7 @@ impl Line {
     // Volume and sector, both in decimal.
     #[tactic(auto, using(crate::proofs::LineLaws::appending))]
     fn place(&mut self, place: Place)
-        requires { length self.old + 41 ≤ 96 }
+        requires { length self.old + 41 ≤ ROOM }
         ensures { self.new ≡ self.old ++ (decimal place.volume.0 ++ (COLON ∷ decimal place.sector)) }
     {
         self.decimal(u64::from(place.volume.0));
@@ -109,7 +113,7 @@ impl Line {
     // The number in hex, and whether the name was found.
     #[tactic(auto, using(crate::proofs::LineLaws::appending))]
     fn login(&mut self, number: u8, found: bool)
-        requires { length self.old + 3 ≤ 96 }
+        requires { length self.old + 3 ≤ ROOM }
         ensures { self.new ≡ self.old ++ (hex_byte number ++ (yes_or_no found ∷ [])) }
     {
         self.hex(number);
@@ -119,7 +123,7 @@ impl Line {
     // The columns before the answer, each with a space behind it.
     #[tactic(auto, using(crate::proofs::LineLaws::appending), unfolding(crate::specs::Line::columns, crate::specs::Line::column))]
     fn columns(&mut self, index: u64, number: u8, refusal: u8)
-        requires { length self.old + 45 ≤ 96 }
+        requires { length self.old + 45 ≤ ROOM }
         ensures { self.new ≡ self.old ++ columns index number refusal }
     {
         self.decimal(index);
@@ -133,7 +137,7 @@ impl Line {
     // What the master answers; a dash stands for a refusal and for nothing to tell.
     #[tactic(auto, unfolding(crate::specs::Line::answer_text, master::specs::Answers::told, master::specs::Answers::fault_told))]
     fn answer(&mut self, answer: Result<Answer, Refused>)
-        requires { length self.old + 41 ≤ 96 }
+        requires { length self.old + 41 ≤ ROOM }
         ensures { self.new ≡ self.old ++ answer_text (told answer) }
     {
         match answer {
@@ -173,7 +177,7 @@ pub fn write_line(
     number: u8,
     answer: Result<Answer, Refused>,
 ) -> usize
-    requires { at + ROOM_OF ≤ length buffer.old }
+    requires { at + ROOM ≤ length buffer.old }
     ensures { Writes (line_text index number (told answer)) buffer.old at result buffer.new }
 {
     let mut line = Line::new();
