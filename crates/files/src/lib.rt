@@ -80,7 +80,7 @@ pub fn read_more<R: Read>(reader: &mut R, input: &mut [u8], kept: usize) -> io::
     Ok(kept + more)
 }
 
-// Reads to the end, or until there is no more room.
+// Reads to the end, or until there is no more room. A read goes on where the one before it ended, so the loop counts nothing.
 fn read_whole<R: Read>(reader: &mut R, file: &mut [u8]) -> io::Result<usize>
     ensures { IfOk result (λ n. IsPrefixLen n file.new) }
 {

@@ -15,6 +15,38 @@ const USER: usize = 16;
 
 const PARTITION: usize = 24;
 
+// The rows of a kind: where they begin, and how long one is.
+#[derive(Clone, Copy)]
+struct Rows {
+    from: usize,
+    width: usize,
+    ghost near: { from < 2000000 },
+    ghost short: { (0 < width) × (width ≤ 24) },
+}
+
+impl Rows {
+    // Tells the first and the last byte of row i.
+    fn append_span(self, page: &mut Page, i: usize)
+        requires { i < 256 }
+    {
+        let first = self.from + self.width * i;
+        write!(page, "{first} to {}", first + self.width - 1);
+    }
+
+    // Tells where a row stands, and where the earlier one does, if there is one.
+    fn append_places(self, page: &mut Page, row: u8, earlier: Option<usize>)
+        requires { IfSome earlier (λ e. e < 256) }
+    {
+        write!(page, " (bytes ");
+        self.append_span(page, usize::from(row));
+        if let Some(earlier) = earlier {
+            write!(page, " and ");
+            self.append_span(page, earlier);
+        }
+        write!(page, ")");
+    }
+}
+
 // The numbers of a header: how many rows of each kind there are, and where it says that they begin.
 #[derive(Clone, Copy)]
 struct Header {
@@ -36,11 +68,22 @@ impl Header {
         })
     }
 
-    // Where the user rows end, and the partition rows begin.
-    fn users_end(self) -> usize
-        ensures { result < 1048585 }
-    {
-        HEADER + USER * usize::from(self.users)
+    // How many user rows there are.
+    fn user_count(self) -> Count<'static> {
+        Count(usize::from(self.users), "user")
+    }
+
+    // How many partition rows there are.
+    fn partition_count(self) -> Count<'static> {
+        Count(usize::from(self.partitions), "partition")
+    }
+
+    // The partition rows, which begin where the user rows end.
+    fn partition_rows(self) -> Rows {
+        Rows {
+            from: HEADER + USER * usize::from(self.users),
+            width: PARTITION,
+        }
     }
 }
 
@@ -83,36 +126,19 @@ fn append_length(page: &mut Page, file: &[u8]) {
 
 // Of a header out of range: tells its numbers.
 fn append_header(page: &mut Page, file: &[u8], header: Header) {
-    let users = Count(usize::from(header.users), "user");
+    let Header {
+        users_from,
+        partitions_from,
+        ..
+    } = header;
+    let users = header.user_count();
     write!(
         page,
-        ": header: out of range: {users} from byte {}, ",
-        header.users_from
+        ": header: out of range: {users} from byte {users_from}, "
     );
-    let partitions = Count(usize::from(header.partitions), "partition");
-    write!(page, "{partitions} from byte {}, ", header.partitions_from);
+    let partitions = header.partition_count();
+    write!(page, "{partitions} from byte {partitions_from}, ");
     append_length(page, file);
-}
-
-// Tells the first and the last byte of row i, where the rows begin at `from`.
-fn append_span(page: &mut Page, from: usize, width: usize, i: usize)
-    requires { (from < 2000000) × (0 < width) × (width ≤ 24) × (i < 256) }
-{
-    let first = from + width * i;
-    write!(page, "{first} to {}", first + width - 1);
-}
-
-// Tells where a row stands, and where the earlier one does, if there is one.
-fn append_places(page: &mut Page, from: usize, width: usize, row: u8, earlier: Option<usize>)
-    requires { (from < 2000000) × (0 < width) × (width ≤ 24) × IfSome earlier (λ e. e < 256) }
-{
-    write!(page, " (bytes ");
-    append_span(page, from, width, usize::from(row));
-    if let Some(earlier) = earlier {
-        write!(page, " and ");
-        append_span(page, from, width, earlier);
-    }
-    write!(page, ")");
 }
 
 // Of a user row: tells that it has the name of an earlier one, and where they stand.
@@ -123,7 +149,11 @@ fn append_user(page: &mut Page, row: u8, earlier: Option<usize>)
     if let Some(earlier) = earlier {
         write!(page, ": repeats the name of the earlier row {earlier}");
     }
-    append_places(page, HEADER, USER, row, earlier);
+    let rows = Rows {
+        from: HEADER,
+        width: USER,
+    };
+    rows.append_places(page, row, earlier);
 }
 
 // A field is out of range: all that the rules say something of are told, whichever it is.
@@ -175,11 +205,11 @@ fn append_fault(page: &mut Page, file: &[u8], header: Header, fault: Fault)
         Fault::InHeader => append_header(page, file, header),
         Fault::InUser(row) => append_user(page, row, earlier),
         Fault::InPartition(row, breach) => {
-            let from = header.users_end();
-            let partition = Partition::at(file, from + PARTITION * usize::from(row));
+            let rows = header.partition_rows();
+            let partition = Partition::at(file, rows.from + rows.width * usize::from(row));
             write!(page, ": partition row {row}");
             append_breach(page, partition, breach, earlier);
-            append_places(page, from, PARTITION, row, earlier);
+            rows.append_places(page, row, earlier);
         }
     }
 }
@@ -196,8 +226,8 @@ pub fn append_verdict(page: &mut Page, file: &[u8]) -> Status {
     };
     match site::check(file) {
         Ok(()) => {
-            let users = Count(usize::from(header.users), "user");
-            let partitions = Count(usize::from(header.partitions), "partition");
+            let users = header.user_count();
+            let partitions = header.partition_count();
             write!(page, ": good, {users}, {partitions}");
             Status::Good
         }
