@@ -9,7 +9,7 @@ use lib.Dec.{ltb}
 use lib.ListN.{length, take, drop}
 use lib.Seq.{take_at}
 use borrow.Author.Tests.{ne_eqb, lt-ltb, le-ltb, ltb-true, ltb-false}
-use Rattle.rows.proofs.BoolLaws.{by_test, by_eq}
+use Rattle.rows.proofs.BoolLaws.{by_test}
 use Rattle.rows.specs.Rows.{over}
 use Rattle.std.specs.Prelude.{Result, Ok, Err}
 use Rattle.refusals.specs.declared.Refusal.{Refusal}

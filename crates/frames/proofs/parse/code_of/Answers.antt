@@ -3,12 +3,12 @@ use mathlib.Core.Bool.{true}
 use lib.ListN.{length, get_or}
 use Rattle.frames.specs.Codes.{byte_of}
 use Rattle.frames.specs.Table.{frame_length, carries_address}
-use Rattle.frames.specs.Reading.{code, refusal_of}
+use Rattle.frames.specs.Reading.{code}
 use Rattle.frames.proofs.TableLaws.{address_long, code_known}
 use Rattle.frames.proofs.ReadLaws.{is_well, empty_1, unknown_3, long_4, dtn_6}
 use Rattle.rows.proofs.BoolLaws.{both}
 use native.Mathlib.Omega.{arith}
-use mathlib.Core.Path.{◌≡◌, sym, ap, ◌∙◌}
+use mathlib.Core.Path.{◌≡◌, sym, ◌∙◌}
 use borrow.Author.Rules.{rules}
 use Rattle.frames.proofs.parse.code_of.Goals as goal
 use Rattle.frames.proofs.parse.code_of.Goals.{else-has_address-via-then-has_address+else-frame-ne0, else-has_address-via-else-has_address}
