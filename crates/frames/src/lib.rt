@@ -15,7 +15,7 @@ use refusals::Refusal;
 use terms::{Address, LockString};
 
 // A command with its plain numbers. `src` is the source station number.
-#[derive(Clone, Copy)]
+#[derive(Clone, Copy, Debug, PartialEq, Eq)]
 pub enum Command {
     Acknowledge,
     Read { src: u8, address: Address },
