@@ -19,7 +19,7 @@ pub struct Page<'a> {
 impl<'a> Page<'a> {
     // A page without text.
     pub fn new(room: &'a mut [u8]) -> Page<'a>
-        ensures { result.end ≡ 0 }
+        ensures { (result.end ≡ 0) × (result.room.now ≡ room.old) }
     {
         Page { room, end: 0 }
     }
@@ -35,6 +35,7 @@ impl<'a> Page<'a> {
     pub fn append(&mut self, bytes: &[u8])
         ensures fits { self.old.end + length bytes.now ≤ length self.old.room.now → take self.new.end self.new.room.now ≡ take self.old.end self.old.room.now ++ bytes.now }
         ensures full { length self.old.room.now < self.old.end + length bytes.now → take self.new.end self.new.room.now ≡ take self.old.end self.old.room.now }
+        ensures room { length self.new.room.now ≡ length self.old.room.now }
     {
         if self.room.len() - self.end < bytes.len() {
             return;

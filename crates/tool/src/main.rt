@@ -156,11 +156,11 @@ fn check_site<R: Env + Files + Print + Errors>(
     Some(worst)
 }
 
-// The number that a word is the digit of; 0 for another word.
-fn digit_of(word: &[u8]) -> u32 {
+// The number that a word is the digit of.
+fn digit_of(word: &[u8]) -> Option<u32> {
     match word {
-        [digit @ b'0'..=b'9'] => u32::from(*digit - b'0'),
-        _ => 0,
+        [digit] => char::from(*digit).to_digit(10),
+        _ => None,
     }
 }
 
@@ -182,10 +182,9 @@ fn parameters<R: Env + Print + Errors>(rt: &R, first: usize, count: usize) -> Op
     }
     let mut room = [0u8; NAME];
     let word = argument(rt, first, &mut room);
-    let size = digit_of(word);
-    match params::cpm_parameters(size) {
-        Ok(_) => print_tables(rt, &[size]),
-        Err(_) => misused(rt, b"parameters: SIZE is 1 to 6, and not ", word),
+    match digit_of(word) {
+        Some(size) if params::cpm_parameters(size).is_ok() => print_tables(rt, &[size]),
+        _ => misused(rt, b"parameters: SIZE is 1 to 6, and not ", word),
     }
 }
 
