@@ -17,8 +17,8 @@ use Rattle.terms.specs.Strings.{string_at}
 use Rattle.frames.specs.Reading.{code, named_in, login_in, string_request, request_in}
 use Rattle.frames.proofs.TableLaws.{Code, acknowledge, read, write, login, assign, lock, unlock, clear, logout, code_is}
 use Rattle.frames.proofs.ReadLaws.{well_is, well_long}
+use Rattle.site.specs.Places.{Placed}
 use Rattle.site.specs.Rules.{good_site}
-use Rattle.site.specs.declared.Placed.{Placed}
 use Rattle.who.specs.Logins.{logged_in}
 use Rattle.who.proofs.WhoLaws.{good_is}
 use Rattle.locks.specs.Table.{lock_status, lock_table, unlock_status, unlock_table, cleared_table}

@@ -121,14 +121,14 @@ unfolding heard_effect received_told
 heard_another n h d s t w ne = rw (ne_eqb h.user 0 ne) (record { answer = refl; locks = refl; records = refl })
 
 -- one to the master is served, or refused as there
-module _ {n user len : ℕ} {d s t w t' w' : List ℕ} (to_it : user ≡ 0) where
-  pub heard_served : {a : Answer} → Serves n d s t w (Ok a) t' w' → Does (heard_effect n user len d s t w) (received_told (Ok (AsFrame a))) t' w'
+module _ (n : ℕ) (h : Heading) (d s t w : List ℕ) (to_it : h.user ≡ 0) (t' w' : List ℕ) where
+  pub heard_served : (a : Answer) → Serves n d s t w (Ok a) t' w' → Does (heard_effect n h.user h.length d s t w) (received_told (Ok (AsFrame a))) t' w'
   unfolding heard_effect received_told
-  heard_served done = rw to_it done
+  heard_served a done = rw to_it done
 
-  pub heard_refused : {e : Refused} → Serves n d s t w (Err e) t' w' → Does (heard_effect n user len d s t w) (received_told (Err e)) t' w'
+  pub heard_refused : (e : Refused) → Serves n d s t w (Err e) t' w' → Does (heard_effect n h.user h.length d s t w) (received_told (Err e)) t' w'
   unfolding heard_effect received_told
-  heard_refused done = rw to_it done
+  heard_refused e done = rw to_it done
 
 -- ---- a request of a station, written to the line and received, is served as the request itself: whatever stood in the buffer, and
 -- whatever bits follow

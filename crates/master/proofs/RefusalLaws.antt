@@ -1,7 +1,8 @@
 -- The tests of a frame as facts.
 use Prim.Native.Nat.{ℕ, ◌<◌}
 use native.Mathlib.Omega.{arith}
-use mathlib.Core.Path.{◌≡◌, refl}
+use mathlib.Core.Path.{◌≡◌, refl, sym, ◌∙◌}
+use mathlib.Core.Logic.{◌⊎◌, inl, inr, ⊎_elim}
 use mathlib.Core.Bool.{Bool, true, false, cond, not, ◌&&◌, ◌||◌}
 use mathlib.Core.List.{List}
 use lib.Dec.{eqb}
@@ -9,7 +10,13 @@ use lib.ListN.{length, get_or}
 use borrow.Author.Tests.{eq-eqb, ne_eqb, not-false}
 use Rattle.rows.proofs.BoolLaws.{by_test, by_eq, both, or_rest, either}
 use Rattle.frames.specs.Table.{LOGIN, LOGOUT, frame_length, carries_address}
-use Rattle.frames.specs.Reading.{code, refusal_of, address_in}
+use Rattle.refusals.specs.declared.Refusal.{Refusal}
+use Rattle.refusals.specs.Refusals.{number}
+use Rattle.refusals.proofs.OutcomeLaws.{number_never_0}
+use Rattle.frames.specs.Requests.{plain}
+use Rattle.frames.specs.Reading.{code, named_in, login_in, string_request, request_in, refusal_of, address_in}
+use Rattle.frames.proofs.ReadLaws.{empty_1, unknown_3, long_4}
+use Rattle.frames.proofs.TableLaws.{Code as Coded, acknowledge, read, write, login, assign, lock, unlock, clear, logout, code_is}
 use Rattle.site.specs.Rules.{good_site}
 use Rattle.site.specs.Places.{placed_in}
 use Rattle.site.proofs.PlaceLaws.{placed_low}
@@ -17,6 +24,7 @@ use Rattle.who.specs.Logins.{logged_in}
 use Rattle.who.proofs.WhoLaws.{logged_below}
 use Rattle.master.specs.Tables.{good_tables}
 use Rattle.master.specs.Refusals.{ANYBODY, unknown, misplaced, src_differs, place_refusal, frame_tests, frame_refusal, refusal}
+use Rattle.master.specs.Inner.{sent_elsewhere}
 
 -- a row of seven tests and what comes last
 tests : Bool → Bool → Bool → Bool → Bool → Bool → Bool → ℕ → ℕ
@@ -142,3 +150,78 @@ module _ (n : ℕ) (f w : List ℕ) where
         first : (a b : Bool) → (a || b) ≡ false → a ≡ false
         first true b q = q
         first false b q = refl
+
+-- the tests as they are made, one after the other
+module _ (n : ℕ) (f w : List ℕ) where
+  pub test_1 : length f ≡ 0 → frame_tests n f w 0 ≡ 1
+  unfolding frame_tests
+  test_1 e = rw (empty_1 f e)
+
+  module _ (some : length f ≡ 0 → ⊥) where
+    not_1 : eqb (refusal_of f) 1 ≡ false
+    unfolding refusal_of
+    not_1 = rw (ne_eqb (length f) 0 some) (other (eqb (frame_length (code f)) 0) (not (eqb (length f) (frame_length (code f)))) (carries_address (code f) && not (eqb (get_or f 1 0) 0)))
+      where
+        other : (b c d : Bool) → eqb (cond b 3 (cond c 4 (cond d 6 0))) 1 ≡ false
+        other true c d = refl
+        other false true d = refl
+        other false false true = refl
+        other false false false = refl
+
+    pub test_2 : unknown (logged_in w) n ≡ true → frame_tests n f w 0 ≡ 2
+    unfolding frame_tests
+    test_2 y = rw (not_1, y)
+
+    module _ (known : unknown (logged_in w) n ≡ false) where
+      pub test_3 : frame_length (code f) ≡ 0 → frame_tests n f w 0 ≡ 3
+      unfolding frame_tests
+      test_3 e = rw (unknown_3 f some e, known)
+
+      module _ (coded : frame_length (code f) ≡ 0 → ⊥) where
+        pub test_4 : (length f ≡ frame_length (code f) → ⊥) → frame_tests n f w 0 ≡ 4
+        unfolding frame_tests
+        test_4 ne = rw (long_4 f some coded ne, known)
+
+        module _ (long : length f ≡ frame_length (code f)) where
+          -- reading refuses 6 alone
+          late : (refusal_of f ≡ 0) ⊎ (refusal_of f ≡ 6)
+          unfolding refusal_of
+          late = by_test (carries_address (code f) && not (eqb (get_or f 1 0) 0))
+              (λ y. inr (rw (ne_eqb _ _ some, ne_eqb _ _ coded, eq-eqb _ _ long, y)))
+              (λ m. inl (rw (ne_eqb _ _ some, ne_eqb _ _ coded, eq-eqb _ _ long, m)))
+
+          pub test_5 : misplaced n (code f) ≡ true → frame_tests n f w 0 ≡ 5
+          unfolding frame_tests
+          test_5 y = ⊎_elim (λ (e : refusal_of f ≡ 0). rw (e, known, y)) (λ (e : refusal_of f ≡ 6). rw (e, known, y)) late
+
+          module _ (seat : misplaced n (code f) ≡ false) where
+            pub test_6 : (r : Refusal) → refusal_of f ≡ number r → frame_tests n f w 0 ≡ number r
+            unfolding frame_tests
+            test_6 r e = ⊎_elim
+                (λ (z : refusal_of f ≡ 0). absurd (number_never_0 r (sym e ∙ z)))
+                (λ (six : refusal_of f ≡ 6). rw (six, known, seat) (sym six ∙ e))
+                late
+
+            pub test_7 : refusal_of f ≡ 0 → src_differs n f ≡ true → frame_tests n f w 0 ≡ 7
+            unfolding frame_tests
+            test_7 z y = rw (z, known, seat, y)
+
+            pub test_none : refusal_of f ≡ 0 → src_differs n f ≡ false → frame_tests n f w 0 ≡ 0
+            unfolding frame_tests
+            test_none z m = rw (z, known, seat, m)
+
+-- the src of the request is that of the frame
+pub elsewhere_is : (n : ℕ) (f : List ℕ) → (frame_length (code f) ≡ 0 → ⊥) → sent_elsewhere n (request_in f).command ≡ src_differs n f
+unfolding sent_elsewhere src_differs request_in carries_address plain login_in named_in string_request
+elsewhere_is n f known = go (code_is (code f) known)
+  where
+    go : Coded (code f) → sent_elsewhere n (request_in f).command ≡ src_differs n f
+    go (acknowledge e) = rw e
+    go (read e) = rw e
+    go (write e) = rw e
+    go (login e) = rw e
+    go (assign e) = rw e
+    go (lock e) = rw e
+    go (unlock e) = rw e
+    go (clear e) = rw e
+    go (logout e) = rw e

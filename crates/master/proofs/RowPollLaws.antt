@@ -1,7 +1,7 @@
 -- The cases of a poll turn over a row, one law each: a number that the word lets pass, the turn of one record, and what it makes of the row.
 use Prim.Native.Nat.{ℕ, ◌<◌, ◌^◌}
 use native.Mathlib.Omega.{arith}
-use mathlib.Core.Path.{◌≡◌, refl, sym, ap, ◌∙◌}
+use mathlib.Core.Path.{◌≡◌, sym, ap, subst, ◌∙◌}
 use mathlib.Core.Bool.{Bool, true, false, cond, not, ◌&&◌}
 use mathlib.Core.List.{List}
 use lib.Dec.{eqb, ltb}
@@ -29,7 +29,7 @@ use Rattle.locks.specs.Good.{locks, good_locks}
 use Rattle.locks.specs.Table.{cleared_table}
 use Rattle.locks.proofs.GoodLaws.{sound_same}
 use Rattle.master.specs.declared.Turned.{Turned}
-use Rattle.master.specs.Refusals.{ANYBODY, unknown}
+use Rattle.master.specs.Refusals.{unknown}
 use Rattle.master.specs.Polls.{with_counts, after_turn, turn_refusal, due_now, out_now, station_turn}
 use Rattle.master.specs.RowPolls.{row_refusal, RowPolls, row_effect}
 use Rattle.master.specs.Answers.{turn_told}
@@ -127,7 +127,7 @@ module _ (n : ℕ) (heard : Bool) (xs : List Station) (t : List ℕ) where
       unfolding seat_refusal
       row_below = by_test (ltb n numbers)
           (λ y. ltb-true n numbers y)
-          (λ m. let fits : word < 2 ^ 64 = rw ((roll_some xs word roll).1, ← (good_is xs (roll_some xs word roll).0).sized) (word_fits xs) in both (seated _ (bit_at word) n false true (sym z)).is_in_lem (bit_past word n (omega (arith, fits, pow_mono {i = 64} {j = n} (ltb-false n numbers m)))))
+          (λ m. let fits : word < 2 ^ 64 = subst (λ (k : ℕ). word < 2 ^ k) (good_is xs (roll_some xs word roll).0).sized (rw (roll_some xs word roll).1 (word_fits xs)) in both (seated _ (bit_at word) n false true (sym z)).is_in_lem (bit_past word n (omega (arith, fits, pow_mono {i = 64} {j = n} (ltb-false n numbers m)))))
 
       pub row_inside : n < length xs
       row_inside = omega (arith, row_below, (good_is xs (roll_some xs word roll).0).sized)

@@ -1,10 +1,10 @@
 -- The poll turn over a row of records is the poll turn over the bytes in which it stands; only one outcome; a refusal leaves everything.
 use Prim.Native.Nat.{ℕ, ◌*◌, ◌≤◌, ◌<◌}
 use native.Mathlib.Omega.{arith}
-use mathlib.Core.Path.{◌≡◌, refl, sym, ap, ◌∙◌}
+use mathlib.Core.Path.{◌≡◌, refl, sym, ap, subst, ◌∙◌}
 use mathlib.Core.Bool.{Bool, true, false}
 use mathlib.Core.List.{List, []}
-use lib.Dec.{eqb, ltb}
+use lib.Dec.{ltb}
 use lib.ListN.{length, take, set, drop_of_length-le, get_or-eq_default}
 use lib.Seq.{get_or-set_same}
 use borrow.Author.Tests.{ne_eqb, ltb-true, ltb-false}
@@ -25,14 +25,14 @@ use Rattle.who.proofs.WhoLaws.{logged_below, stations_logged}
 use Rattle.locks.specs.Good.{locks, good_locks}
 use Rattle.locks.proofs.GoodLaws.{sound_same}
 use Rattle.master.specs.declared.Turned.{Turned}
-use Rattle.master.specs.Answers.{refuses, answers, turn_was, turn_told}
+use Rattle.master.specs.Answers.{answers, turn_was, turn_told}
 use Rattle.master.specs.Tables.{good_tables}
 use Rattle.master.specs.Refusals.{unknown}
 use Rattle.master.specs.Polls.{station_at, with_counts, after_turn, poll_refusal, Polls, turn_refusal, due_now, out_now, station_turn, placing, poll_effect}
 use Rattle.master.specs.RowPolls.{row_refusal, RowPolls, row_effect}
 use Rattle.master.proofs.Outcomes.{no_answer}
 use Rattle.master.proofs.PollLaws.{seated, polls_refused, poll_bad_tables}
-use Rattle.master.specs.Effects.{Effect, telling, unless}
+use Rattle.master.specs.Effects.{Effect, unless, Does}
 use Rattle.master.proofs.EffectLaws.{refused_does}
 
 -- a turn is told as a turn
@@ -115,7 +115,7 @@ module _ (n : ℕ) (heard : Bool) (w t : List ℕ) (stands : is_row w ≡ true) 
     module _ (x : Turned) (a : RowPolls n heard xs t (Ok x) ys t') where
       turned : k ≡ 0
       unfolding row_effect unless turn_told
-      turned = by_eq k 0 (λ z. z) (λ ne. absurd (no_answer (sym (a.answer ∙ rw (same_refusal, ne_eqb k 0 ne)))))
+      turned = by_eq k 0 (λ z. z) (λ ne. absurd (no_answer {k = k} (sym (a.answer ∙ rw (same_refusal, ne_eqb k 0 ne)))))
 
       pub ties_below : n < numbers
       ties_below = below turned
@@ -159,15 +159,18 @@ module _ (n : ℕ) (heard : Bool) (ys : List Station) (t : List ℕ) (typed : Ty
     unfolding row_effect poll_effect unless
     full_row = by_eq (poll_refusal n heard t bytes) 0
         (λ z.
-        let b = rw (sym same, row_turn n heard bytes t stands z) at a in
+        let again = subst (λ (q : List Station). Does (row_effect n heard q t) (turn_told r) t' ys') (sym same) a in
+        let b = rw (row_turn n heard bytes t stands z) at again in
         let s = (turn n heard bytes t stands z).records in
         let l = below n heard bytes t stands z in
         let h = turned_long n (station_at bytes n) heard t (rw (station_long l) (longs n (omega arith))) in
-        rw (poll_turn n heard bytes t stands z) (record { answer = b.answer; locks = b.locks; records = ap bytes_of_row b.records ∙ rw same (bytes_put ys longs sized n l s h) }))
+        let after : ys' ≡ set ys n s = b.records ∙ ap (λ (q : List Station). set q n s) same in
+        rw (poll_turn n heard bytes t stands z) (record { answer = b.answer; locks = b.locks; records = ap bytes_of_row after ∙ bytes_put ys longs sized n l s h }))
         (λ ne.
         let m = ne_eqb (poll_refusal n heard t bytes) 0 ne in
-        let refused : row_refusal n heard ys t ≡ poll_refusal n heard t bytes = rw (sym same) (same_refusal n heard bytes t stands) in
-        record { answer = a.answer ∙ rw (refused, m); locks = a.locks ∙ rw (refused, m); records = ap bytes_of_row (a.records ∙ rw (refused, m)) ∙ rw m })
+        let refused : row_refusal n heard ys t ≡ poll_refusal n heard t bytes = ap (λ (q : List Station). row_refusal n heard q t) (sym same) ∙ same_refusal n heard bytes t stands in
+        let kept : ys' ≡ ys = a.records ∙ rw (refused, m) in
+        record { answer = a.answer ∙ rw (refused, m); locks = a.locks ∙ rw (refused, m); records = ap bytes_of_row kept ∙ rw m })
       where
         station_long : n < numbers → station_at bytes n ≡ station_in ys n
         station_long l = sym (read_at n heard bytes t stands l) ∙ rw same

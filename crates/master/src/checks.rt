@@ -1,6 +1,7 @@
 // The tests of a frame, 1 to 7, in their order.
 ghost use Rattle.std.specs.Prelude.{◌≡◌, not, ◌||◌, eqb};
 ghost use Rattle.refusals.specs.Outcomes.{GivesUnless};
+ghost use Rattle.frames.specs.Codes.{byte_of};
 ghost use Rattle.frames.specs.Reading.{request_in};
 ghost use Rattle.master.specs.Refusals.{ANYBODY, misplaced, frame_tests};
 ghost use Rattle.master.specs.Inner.{sent_elsewhere};
@@ -19,48 +20,50 @@ pub fn is_unknown(number: u32, inside: bool) -> bool
 }
 
 // The command with this code has no place at the number.
-fn is_misplaced(number: u32, code: u8) -> bool
-    ensures { result ≡ misplaced number code }
+#[tactic(auto, unfolding(crate::specs::Refusals::misplaced))]
+fn is_misplaced(number: u32, code: Code) -> bool
+    ensures { result ≡ misplaced number (byte_of code) }
 {
-    match Code::try_from(code) {
-        Ok(Code::Login) => number != ANYBODY,
-        Ok(Code::Logout) => number == ANYBODY || number == 0,
+    match code {
+        Code::Login => number != ANYBODY,
+        Code::Logout => number == ANYBODY || number == 0,
         _ => number == ANYBODY,
     }
 }
 
-// src differs from the number polled.
-fn src_differs(number: u32, command: Command) -> bool
+// src differs from the number polled, in a command that has one.
+#[tactic(auto, unfolding(crate::specs::Inner::sent_elsewhere))]
+fn is_sent_elsewhere(number: u32, command: Command) -> bool
     ensures { result ≡ sent_elsewhere number command }
 {
     match command {
-        Command::Read { src, .. } | Command::Write { src, .. } | Command::Logout { src } => {
-            u32::from(src) != number
-        }
+        Command::Read { src, .. } => u32::from(src) != number,
+        Command::Write { src, .. } => u32::from(src) != number,
+        Command::Logout { src } => u32::from(src) != number,
         _ => false,
     }
 }
 
-// The request of a frame, or the first of 1 to 7 that holds. What reading refuses comes in its turn: 1 before the number, 6
-// after the place of the command.
+// The request of a frame, or the first of 1 to 7 that holds. Of what reading refuses 6 alone is left for it: the others come
+// before the place of the command.
 pub fn request_at(number: u32, frame: &[u8], records: &[u8]) -> Result<Request, Refusal>
     ensures { GivesUnless (frame_tests number frame.now records.now 0) (request_in frame.now) result }
 {
-    if frame.is_empty() {
+    if frame.len() == 0 {
         return Err(Refusal::EmptyFrame);
     }
     if is_unknown(number, who::is_in(records, number as usize)) {
         return Err(Refusal::NobodysNumber);
     }
-    let read = frames::read(frame);
-    if let Err(early @ (Refusal::UnknownCode | Refusal::WrongLength)) = read {
-        return Err(early);
+    let code = Code::try_from(frame[0])?;
+    if frame.len() != code.frame_length() {
+        return Err(Refusal::WrongLength);
     }
-    if is_misplaced(number, frame[0]) {
+    if is_misplaced(number, code) {
         return Err(Refusal::Misplaced);
     }
-    let request = read?;
-    if src_differs(number, request.command) {
+    let request = frames::read(frame)?;
+    if is_sent_elsewhere(number, request.command) {
         return Err(Refusal::WrongSource);
     }
     Ok(request)

@@ -14,6 +14,7 @@ ghost use Rattle.master.specs.Inner.{LogsIn, LogsOut, LogsOldOut, Performs};
 
 use crate::Answer;
 use frames::{Command, Request};
+use rows::LowFirst;
 use site::Refused;
 use terms::{Address, Partition, Status, Volume};
 use who::Station;
@@ -32,7 +33,7 @@ fn log_in(q: Request, product: u8, site: &[u8], records: &mut [u8]) -> Answer
     requires { (good_records records.old ≡ true) × (good_site site.now ≡ true) }
     ensures { LogsIn q product site.now records.old result records.new }
 {
-    let sent = u32::from_le_bytes(q.serial);
+    let sent = u32::low_first_at(&q.serial, 0);
     let Some(number) = who::lowest_number(records) else {
         return Answer::LoggedIn {
             number: 0,

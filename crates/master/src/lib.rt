@@ -58,6 +58,7 @@ pub struct Turned {
 }
 
 // Fills fresh tables: 64 free rows and only user 0. 11 for another size.
+#[tactic(auto, unfolding(crate::specs::Fresh::fresh_effect, crate::specs::Fresh::sized, crate::specs::Effects::unless, crate::specs::Answers::done_told))]
 pub fn fresh(locks: &mut [u8], records: &mut [u8]) -> Result<(), Refusal>
     ensures { Freshens locks.old records.old result locks.new records.new }
 {
@@ -131,7 +132,9 @@ pub fn poll_row(
 ) -> Result<Turned, Refusal>
     ensures { RowPolls number heard row.old locks.old result row.new locks.new }
 {
-    let word = who::lent::roll_call(row).ok_or(Refusal::BadTables)?;
+    let Some(word) = who::lent::roll_call(row) else {
+        return Err(Refusal::BadTables);
+    };
     poll::may_turn(number, word, locks)?;
     let polled = &mut row[number as usize];
     poll::turn(polled, number as u8, heard, locks)
@@ -150,8 +153,8 @@ pub fn poll_turn(
         return Err(Refusal::BadTables);
     }
     let mut row = [who::lent::vacant(); 64];
-    for (n, station) in row.iter_mut().enumerate() {
-        *station = who::station_at(records, n);
+    for n in 0..who::NUMBERS {
+        row[n] = who::station_at(records, n);
     }
     let turned = poll_row(&mut row, locks, number, heard)?;
     let at = number as usize;

@@ -1,5 +1,5 @@
 // One poll turn: the refusals that the tables and the number give, and the turn of one record.
-ghost use Rattle.std.specs.Prelude.{◌≡◌, true};
+ghost use Rattle.std.specs.Prelude.{◌≡◌, true, not, ◌&&◌};
 ghost use Rattle.rows.specs.Numbers.{bit_at};
 ghost use Rattle.refusals.specs.Outcomes.{refusal_in};
 ghost use Rattle.who.specs.Good.{good_counts};
@@ -11,6 +11,7 @@ use refusals::Refusal;
 use who::Station;
 
 // 11 for the lock table, 2 or 5. The word says who is logged in.
+#[tactic(auto, unfolding(crate::specs::Inner::seat_refusal, crate::specs::Polls::turn_refusal, crate::specs::Refusals::unknown))]
 pub fn may_turn(number: u32, word: u64, locks: &[u8]) -> Result<(), Refusal>
     ensures { refusal_in result ≡ seat_refusal (good_locks (bit_at word) locks.now) (bit_at word) number }
 {
@@ -26,6 +27,13 @@ pub fn may_turn(number: u32, word: u64, locks: &[u8]) -> Result<(), Refusal>
     Ok(())
 }
 
+// Heard in a turn that was not due.
+fn is_early(heard: bool, due: bool) -> bool
+    ensures { result ≡ heard && not due }
+{
+    heard && !due
+}
+
 // The turn of a record that is logged in: 12, or the turn. A station that is out loses its locks and its record.
 pub fn turn(
     polled: &mut Station,
@@ -37,7 +45,7 @@ pub fn turn(
     ensures { MakesTurn number polled.old heard locks.old result locks.new polled.new }
 {
     let turn = who::turn_of(polled.misses, polled.slow, heard);
-    if heard && !turn.due {
+    if is_early(heard, turn.due) {
         return Err(Refusal::HeardTooEarly);
     }
     if turn.out {

@@ -1,25 +1,29 @@
-use Rattle.master.proofs.ServeLaws.{serves_refused, serves_faulty, bad_tables, bad_site}
-use Rattle.master.specs.declared.Answer.TheVariants.{Faulty}
-use Rattle.master.specs.Frames.{Serves}
+use Rattle.std.proofs.lemmas.Result.{err_from_is_err_and}
+use Rattle.std.specs.Prelude.{Err}
+use Rattle.refusals.specs.declared.Refusal.TheVariants.{BadTables}
+use Rattle.site.specs.declared.Refused.TheVariants.{Site}
 use Rattle.site.specs.declared.Fault.{Fault}
 use Rattle.site.proofs.FaultLaws.{checked_good, checked_is}
+use Rattle.master.specs.Frames.{Serves}
+use Rattle.master.proofs.ServeLaws.{serves_refused, serves_faulty, bad_tables, bad_site}
 use native.Mathlib.Omega.{arith}
 use mathlib.Core.Path.{sym, subst, ◌∙◌}
 use Rattle.master.proofs.serve.Goals as goal
 
 pub returns-then-not-tables_good : goal.returns-then-not-tables_good
-returns-then-not-tables_good c = serves_refused _ _ _ _ _ 11 (bad_tables _ _ _ _ _ (sym c.tables_good.ensures.answer ∙ c.if-not-tables_good.true)) (λ e. omega arith) (λ e. omega arith)
+returns-then-not-tables_good c = serves_refused _ _ _ _ _ BadTables (bad_tables _ _ _ _ _ (sym c.tables_good.ensures.answer ∙ c.if-not-tables_good.true)) (λ e. omega arith)
 
-pub returns-in-Faulty : goal.returns-in-Faulty
-returns-in-Faulty c =
+pub returns-in_err-check : goal.returns-in_err-check
+returns-in_err-check c =
     let a = c.args in
-    let is = checked_is a.site.now (sym c.check-checked.ensures.answer ∙ c.in-Faulty.is) in
-    subst (λ (x : Fault). Serves a.number a.frame.now a.site.now a.locks.now a.records.now (Faulty x) a.locks.now a.records.now) is.1
-    (serves_faulty _ _ _ _ _ (bad_site _ _ _ _ _ (sym c.tables_good.ensures.answer ∙ c.if-not-tables_good.false) is.0))
+    let p = err_from_is_err_and c.from_residual.result c.from_residual.ensures.1 in
+    let is = checked_is a.site.now (sym c.in_err-check.ensures.answer) in
+    rw (p.1, p.2) (subst (λ (x : Fault). Serves a.number a.frame.now a.site.now a.locks.now a.records.now (Err (Site x)) a.locks.now a.records.now) is.1
+    (serves_faulty _ _ _ _ _ (bad_site _ _ _ _ _ (sym c.tables_good.ensures.answer ∙ c.if-not-tables_good.false) is.0)))
 
 pub act-requires : goal.act-requires
 act-requires c =
-    record { records_value = sym c.tables_good.ensures.answer ∙ c.if-not-tables_good.false; site_value = checked_good _ (sym c.check-checked.ensures.answer ∙ c.in_default.is) }
+    record { records_value = sym c.tables_good.ensures.answer ∙ c.if-not-tables_good.false; site_value = checked_good _ (sym c.in_ok-check.ensures.answer) }
 
 pub returns : goal.returns
 returns c = c.act.ensures

@@ -22,29 +22,31 @@ whole : (l : List ℕ) → length l ≡ 4 → part l 0 4 ≡ l
 unfolding part
 whole l full = take_all 4 l (omega arith)
 
-pub four_at-sent-requires : goal.four_at-sent-requires
-four_at-sent-requires c = let full : length c.args.q.serial ≡ 4 = search rules in omega arith
-
-pub returns-then-number-ge-NUMBERS : goal.returns-then-number-ge-NUMBERS
+pub returns-in_default : goal.returns-in_default
 unfolding told login_effect number_given
-returns-then-number-ge-NUMBERS c t = let a = c.args in
+returns-in_default c t = let a = c.args in
     let full : length a.q.serial ≡ 4 = search rules in
-    let none : numbers ≤ lowest_number a.records.now = rw c.lowest_number-number.ensures.answer at c.if-number-ge-NUMBERS.true in
-    let sent : c.four_at-sent.result ≡ low_first a.q.serial = c.four_at-sent.ensures ∙ ap low_first (whole a.q.serial full) in
+    let none : numbers ≤ lowest_number a.records.now = omega (arith, c.in_default.ensures, (good_is a.records.now c.requires.0).sized) in
+    let sent : c.low_first_at-sent.result ≡ low_first a.q.serial = c.low_first_at-sent.ensures ∙ ap low_first (whole a.q.serial full) in
     record { answer = rw (le-ltb _ numbers none, sent); locks = rw (le-ltb _ numbers none); records = rw (le-ltb _ numbers none) }
 
+pub overflow_cast-result : goal.overflow_cast-result
+overflow_cast-result c = record { fits = omega (arith, (good_is c.args.records.now c.requires.0).sized, c.in-Some.ensures.1) }
+
 pub put_station-requires : goal.put_station-requires
-put_station-requires c = omega (arith, (good_is c.args.records.now c.requires.0).sized, c.if-number-ge-NUMBERS.false)
+put_station-requires c = omega (arith, (good_is c.args.records.now c.requires.0).sized, c.in-Some.ensures.1)
 
 pub returns : goal.returns
 unfolding told login_effect number_given name_found after_login logged_in_as
 returns c t = let a = c.args in
     let full : length a.q.serial ≡ 4 = search rules in
-    let some : lowest_number a.records.now < numbers = rw c.lowest_number-number.ensures.answer at c.if-number-ge-NUMBERS.false in
-    let sent : c.four_at-sent.result ≡ low_first a.q.serial = c.four_at-sent.ensures ∙ ap low_first (whole a.q.serial full) in
-    let first : eqb (lowest_number a.records.now) 0 ≡ false = ne_eqb _ _ (λ (z : lowest_number a.records.now ≡ 0). omega (arith, (lowest_number_is a.records.now (good_is a.records.now c.requires.0).sized some).0)) in
+    let at = c.in-Some.ensures in
+    let long = (good_is a.records.now c.requires.0).sized in
+    let some : lowest_number a.records.now < numbers = omega (arith, at.0, at.1, long) in
+    let sent : c.low_first_at-sent.result ≡ low_first a.q.serial = c.low_first_at-sent.ensures ∙ ap low_first (whole a.q.serial full) in
+    let first : eqb (lowest_number a.records.now) 0 ≡ false = ne_eqb _ _ (λ (z : lowest_number a.records.now ≡ 0). omega (arith, (lowest_number_is a.records.now long some).0)) in
     record {
-      answer = rw (lt-ltb _ numbers some, first, sent, c.lowest_number-number.ensures.answer, c.has_user-found.ensures.answer);
+      answer = rw (lt-ltb _ numbers some, first, sent, at.0, c.has_user-found.ensures.answer);
       locks = rw (lt-ltb _ numbers some, first);
-      records = rw (lt-ltb _ numbers some, first) (c.put_station.ensures ∙ rw (c.lowest_number-number.ensures.answer, c.has_user-found.ensures.answer));
+      records = rw (lt-ltb _ numbers some, first) (c.put_station.ensures ∙ rw (at.0, c.has_user-found.ensures.answer));
     }
