@@ -8,7 +8,7 @@ use mathlib.Core.List.{List, [], ◌∷◌, ◌++◌, append_assoc}
 use lib.Arith.{digits_lt}
 use lib.Dec.{eqb, leb}
 use lib.Pow.{pow-add}
-use lib.ListN.{length, take, drop, get_or, set, length-append, length-take, length-drop, drop_of_length-le}
+use lib.ListN.{length, take, drop, get_or, set, length-append, length-take, drop_of_length-le}
 use lib.Seq.{slice, slice-cons, slice_empty, take_at, drop_at, drop-drop, drop-cons, drop-append-le, take-add, set_at, append_snoc}
 use borrow.Author.Tests.{ne_eqb, eqb-true, leb-true, leb-false}
 use mir.Val.{bool_byte}
@@ -153,9 +153,6 @@ copy_more c i x out out₀ e p l =
     rw (e, p, add-one, drop-cons out₀ i 0 l, packed_more i c)
     (set_at (packed i c) (get_or out₀ i 0) (drop (suc i) out₀) (value (take 8 (drop (8 * i) c))) i (length_packed i c)
     ∙ sym (append_snoc (packed i c) (value (take 8 (drop (8 * i) c))) (drop (suc i) out₀)))
-
-pub length_copied : (c : List Bool) (i : ℕ) (out out₀ : List ℕ) → out ≡ packed i c ++ drop i out₀ → i ≤ length out₀ → length out ≡ length out₀
-length_copied c i out out₀ e l = rw e (length-append (packed i c) (drop i out₀) ∙ omega (arith, length_packed i c, length-drop i out₀))
 
 -- ---- where bits stand
 pub slice_join : (f m t : ℕ) (l : List Bool) → f ≤ m → m ≤ t → m ≤ length l → slice f t l ≡ slice f m l ++ slice m t l

@@ -78,7 +78,7 @@ fn rest_of(t: Taker) -> Taker
     }
 }
 
-// The sum of all bits between two places.
+// The sum of all bits between two places. The loop counts nothing: a step goes on by a byte or by a bit.
 pub fn sum(s: &[u8], span: Span) -> Summed
     requires { span.to ≤ 8 * length s.now }
     ensures { Sums (without_zeros 0 (drop span.from (take span.to (to_bits s.now)))) result }
@@ -101,7 +101,7 @@ pub fn sum(s: &[u8], span: Span) -> Summed
     }
 }
 
-// Goes on until a byte is in hand.
+// Goes on until a byte is in hand, by as many steps as that takes.
 fn pull(s: &[u8], to: usize, t: Taker) -> Taker
     requires { (to ≤ 8 * length s.now) × (t.at ≤ to) × (8 ≤ length (coming (to_bits s.now) to t)) }
     ensures { Goes (to_bits s.now) to t result × (8 ≤ result.held) }

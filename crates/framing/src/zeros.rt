@@ -25,7 +25,7 @@ static TAKEN: [u16; 96] = [
 
 // The entry of half a byte after so many ones.
 fn entry(table: &[u16], ones: usize, half: u8) -> u32
-    requires { (16 * ones + half < length table.now) × (length table.now ≤ 96) }
+    requires { 16 * ones + half < length table.now }
     ensures { result ≡ get_or table.now (16 * ones + half) 0 }
 {
     u32::from(table[16 * ones + usize::from(half)])
