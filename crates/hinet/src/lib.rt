@@ -21,6 +21,7 @@ use packing::Packed;
 use refusals::Refusal;
 
 // Fills fresh tables; 11 for another size.
+#[tactic(auto, using(crate::proofs::TellingLaws::done_tells))]
 pub fn hinet_fresh(locks: &mut [u8], stations: &mut [u8]) -> u64
     ensures { Freshened locks.old stations.old result locks.new stations.new }
 {
@@ -28,6 +29,7 @@ pub fn hinet_fresh(locks: &mut [u8], stations: &mut [u8]) -> u64
 }
 
 // 11, or 0 where the tables are good.
+#[tactic(auto, unfolding(crate::specs::Entries::tables_word, crate::specs::Packing::word))]
 pub fn hinet_check_tables(locks: &[u8], stations: &[u8]) -> u64
     ensures { Gives (tables_word locks.now stations.now) result }
 {
@@ -39,6 +41,7 @@ pub fn hinet_check_tables(locks: &[u8], stations: &[u8]) -> u64
 }
 
 // 10 with the first fault, or 0 where the site file is good.
+#[tactic(auto, using(crate::proofs::TellingLaws::check_tells), unfolding(crate::specs::Entries::site_word, crate::specs::Entries::site_told))]
 pub fn hinet_check_site(site: &[u8]) -> u64
     ensures { Gives (site_word site.now) result }
 {
@@ -46,6 +49,7 @@ pub fn hinet_check_site(site: &[u8]) -> u64
 }
 
 // One frame at the number polled: 11, 10 with the first fault, 1 to 9, or what the frame does.
+#[tactic(auto, using(crate::proofs::TellingLaws::frame_tells))]
 pub fn hinet_frame(
     number: u32,
     frame: &[u8],
@@ -59,6 +63,7 @@ pub fn hinet_frame(
 }
 
 // One poll turn of the number: 11, 2, 5, 12, or was it due and did it end in a logout.
+#[tactic(auto, using(crate::proofs::TellingLaws::turn_tells), unfolding(crate::specs::Entries::is_heard))]
 pub fn hinet_poll(number: u32, heard: u32, locks: &mut [u8], stations: &mut [u8]) -> u64
     ensures { Polled number heard locks.old stations.old result locks.new stations.new }
 {
@@ -66,6 +71,7 @@ pub fn hinet_poll(number: u32, heard: u32, locks: &mut [u8], stations: &mut [u8]
 }
 
 // Is the next poll turn of the number due: 11, 2, 5, or due and no logout.
+#[tactic(auto, using(crate::proofs::TellingLaws::turn_tells), unfolding(crate::specs::Entries::due_word))]
 pub fn hinet_due(number: u32, locks: &[u8], stations: &[u8]) -> u64
     ensures { Gives (due_word number locks.now stations.now) result }
 {

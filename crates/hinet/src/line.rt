@@ -12,6 +12,7 @@ pub fn hinet_line_write(user: u8, data: &[u8], bits: &mut [u8]) -> u64
 }
 
 // Reads a frame's bits: 18, 19, 20, 21, 17, 22, 13, or user number and length.
+#[tactic(auto, using(crate::proofs::TellingLaws::gives_tells), unfolding(framing::specs::Reading::heading_in))]
 pub fn hinet_line_read(bits: &[u8], bit_count: usize, data: &mut [u8]) -> u64
     ensures { LineReads bits.now bit_count «data».old result «data».new }
 {
@@ -19,6 +20,7 @@ pub fn hinet_line_read(bits: &[u8], bit_count: usize, data: &mut [u8]) -> u64
 }
 
 // One frame from the line at the number polled: 18, 19, 20, 21, 17, 22; then as hinet_frame, or another's number and length.
+#[tactic(auto, using(crate::proofs::TellingLaws::line_tells))]
 pub fn hinet_line_frame(
     number: u32,
     bits: &[u8],

@@ -149,6 +149,7 @@ pub fn hinet_write_logout(src: u32, buffer: &mut [u8]) -> u64
 }
 
 // Reads a frame by itself: 1, 3, 4, 6, or its code.
+#[tactic(auto, using(crate::proofs::FrameLaws::read_tells), unfolding(crate::specs::Tellings::either_told, crate::specs::FrameEntries::read_word))]
 pub fn hinet_read_frame(frame: &[u8]) -> u64
     ensures { Gives (read_word frame.now) result }
 {
