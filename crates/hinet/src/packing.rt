@@ -1,4 +1,6 @@
 // An answer as one word (specs/Packing.antt).
+#![tactic(auto, unfolding(crate::specs::Packing::word))]
+
 ghost use Rattle.std.specs.Prelude.{◌≡◌, ◌+◌, ◌*◌, ◌<◌, ◌^◌, Result, Ok, Err};
 ghost use Rattle.refusals.specs.Refusals.{number};
 ghost use Rattle.site.specs.Faults.{breach_number as number_of};
@@ -61,7 +63,6 @@ impl Kind {
 impl Packed for () {
     ghost tells = { λ _. answers no_bytes };
 
-    #[tactic(auto, unfolding(crate::specs::Packing::word))]
     fn pack(self) -> u64 {
         0
     }
@@ -70,7 +71,6 @@ impl Packed for () {
 impl Packed for Refusal {
     ghost tells = { λ refusal. refuses (number refusal) };
 
-    #[tactic(auto, unfolding(crate::specs::Packing::word))]
     fn pack(self) -> u64 {
         u64::from(self.number())
     }
@@ -90,7 +90,6 @@ fn breach_number(breach: Breach) -> u8
 }
 
 // Refusal 10 with part, row and breach.
-#[tactic(auto, unfolding(crate::specs::Packing::word))]
 fn pack_site(part: u8, row: u8, breach: Breach) -> u64
     ensures { result ≡ word (refuses_site part row (number_of breach)) }
 {
@@ -190,7 +189,6 @@ pub struct Written(pub u8);
 impl Packed for Written {
     ghost tells = { λ written. answers (frame_made written.0) };
 
-    #[tactic(auto, unfolding(crate::specs::Packing::word))]
     fn pack(self) -> u64 {
         Kind::Written.word(u64::from(self.0))
     }
@@ -200,7 +198,6 @@ impl Packed for Written {
 impl Packed for Code {
     ghost tells = { λ code. answers (request_of (byte_of code)) };
 
-    #[tactic(auto, unfolding(crate::specs::Packing::word))]
     fn pack(self) -> u64 {
         Kind::Request.word(u64::from(u8::from(self)))
     }
@@ -213,7 +210,6 @@ pub struct Bits(pub u16);
 impl Packed for Bits {
     ghost tells = { λ bits. answers (bits_of bits.0) };
 
-    #[tactic(auto, unfolding(crate::specs::Packing::word))]
     fn pack(self) -> u64 {
         Kind::Bits.word(u64::from(self.0))
     }
@@ -223,7 +219,6 @@ impl Packed for Bits {
 impl Packed for Heading {
     ghost tells = { λ heading. answers (line_of heading.user heading.length) };
 
-    #[tactic(auto, unfolding(crate::specs::Packing::word))]
     fn pack(self) -> u64 {
         Kind::Line.word(u64::from(self.user) + u64::from(self.length) * BYTE_1)
     }
@@ -246,7 +241,6 @@ impl Packed for Received {
 impl Packed for Honor {
     ghost tells = { λ honor. answers (honor_flag (flag_of honor)) };
 
-    #[tactic(auto, unfolding(crate::specs::Packing::word))]
     fn pack(self) -> u64 {
         Kind::Boot.word(u64::from(u8::from(self)))
     }
