@@ -1,4 +1,5 @@
 -- The laws of specs/Answers.antt: a case for each way in which a login is answered.
+use Rattle.std.specs.Prelude.{Ok, Err}
 use Prim.Native.Nat.{ℕ, ◌≤◌, ◌<◌}
 use mathlib.Core.Path.{◌≡◌, ap, ◌∙◌}
 use mathlib.Core.Bool.{true, false}
@@ -6,23 +7,30 @@ use mathlib.Core.List.{List}
 use lib.ListN.{length}
 use borrow.Author.Tests.{lt-ltb, le-ltb}
 use Rattle.rows.proofs.BoolLaws.{by_test}
-use Rattle.boot.specs.declared.systems.Pick.{Pick}
-use Rattle.boot.specs.declared.Booted.TheVariants.{Refused, Honors}
-use Rattle.boot.specs.Tables.{Tables, all_whole, iobyte, product_number, machine_known, product_known, login_please, os_menu, user_of, user_known, no_configuration, configuration}
-use Rattle.boot.specs.Choice.{choice_of, chosen, all_there, machine_row, product_row, given, honor}
+use Rattle.rows.proofs.IndexLaws.{found_if, missing_if}
+use Rattle.refusals.specs.declared.Refusal.TheVariants.{BadBootTables, ShortBuffer}
+use Rattle.boot.specs.declared.Honor.{Honor}
+use Rattle.boot.specs.Honors.{flag_of}
+use Rattle.boot.specs.Tables.{Tables, all_whole, iobyte, product_number, machine_known, product_known, login_please, user_rows, is_user, user_of, user_known, no_configuration, configuration}
+use Rattle.boot.specs.Choice.{Choice, choice_of, chosen_for, chosen, all_there, machine_row, product_row, given, honor}
 use Rattle.boot.specs.Block.{boot_block, configuration_of}
-use Rattle.boot.specs.Answers.{boot_refusal, written, boot_answer, block_after, Boots}
-use Rattle.boot.specs.Inner.{pick_for, picked, sent_flag, sent_block, Sends, Answers}
-use Rattle.boot.proofs.ChoiceLaws.{pick_chosen, chosen_unknown, chosen_known, drives_unknown, drives_known, chosen_flag}
+use Rattle.boot.specs.Answers.{Honors, booted, boot_refusal, written, boot_answer, block_after, Boots}
+use Rattle.boot.specs.Inner.{sent_flag, sent_block, Sends, Answers}
+use Rattle.boot.proofs.ChoiceLaws.{le_of_eq, chosen_unknown, chosen_known, drives_unknown, drives_known, chosen_flag}
 
 -- what is sent to a name and password that are unknown, and to a user
 module _ (x : Tables) (m p : ℕ) (name password b : List ℕ) (io : ℕ) {r : ℕ} {b' : List ℕ} where
-  pub to_nobody : user_known x.users name password ≡ false → {please : List ℕ} → please ≡ login_please x.products p → Sends x.directory no_configuration io (choice_of 2 please) b r b' → Sends x.directory (configuration_of x name password) io (chosen x m p name password) b r b'
-  to_nobody n e done = rw (drives_unknown x name password n, chosen_unknown x m p name password n) (rw e at done)
+  pub to_nobody : user_rows x.users ≡ user_of x.users name password → {please : List ℕ} → please ≡ login_please x.products p → Sends x.directory no_configuration io (choice_of 2 please) b r b' → Sends x.directory (configuration_of x name password) io (chosen x m p name password) b r b'
+  unfolding user_of user_known
+  to_nobody none e done =
+      let unknown : user_known x.users name password ≡ false = missing_if (is_user x.users name password) (user_rows x.users) (le_of_eq none) in
+      rw (drives_unknown x name password unknown, chosen_unknown x m p name password unknown) (rw e at done)
 
-  pub to_user : user_known x.users name password ≡ true → {u : ℕ} {c menu : List ℕ} {pick : Pick} → u ≡ user_of x.users name password → c ≡ configuration x.configurations u → menu ≡ os_menu x.products p → pick ≡ pick_for x.machines m x.users u x.systems x.directory → Sends x.directory c io (picked pick x.systems menu) b r b' → Sends x.directory (configuration_of x name password) io (chosen x m p name password) b r b'
-  to_user y {u} is own menu pick done =
-      rw (drives_known x name password y, chosen_known x m p name password y, ← is, ← pick_chosen x m p u) (rw (own, menu, pick) at done)
+  pub to_user : {u : ℕ} → (u ≡ user_of x.users name password) × (u < user_rows x.users) → {c : List ℕ} {choice : Choice} → c ≡ configuration x.configurations u → choice ≡ chosen_for x m p u → Sends x.directory c io choice b r b' → Sends x.directory (configuration_of x name password) io (chosen x m p name password) b r b'
+  unfolding user_of user_known
+  to_user {u} is own chose done =
+      let known : user_known x.users name password ≡ true = found_if (is_user x.users name password) (user_rows x.users) (rw is.0 at is.1) in
+      rw (drives_known x name password known, chosen_known x m p name password known) (rw (own, chose, is.0) at done)
 
 module _ (x : Tables) (serial name password b : List ℕ) where
   -- no row for the machine, none for its product
@@ -44,15 +52,15 @@ module _ (x : Tables) (serial name password b : List ℕ) where
         (λ f. record { answer = done.answer ∙ rw (y, z, f); left = done.left ∙ rw (y, z, f) })
 
   -- 23, 13, or an answer
-  pub not_whole : all_whole x ≡ false → Boots x serial name password b (Refused 23) b
-  unfolding boot_answer block_after boot_refusal
+  pub not_whole : all_whole x ≡ false → Boots x serial name password b (Err BadBootTables) b
+  unfolding boot_answer block_after boot_refusal booted
   not_whole n = record { answer = rw n; left = rw n }
 
-  pub too_short : all_whole x ≡ true → length b < 194 → Boots x serial name password b (Refused 13) b
-  unfolding boot_answer block_after boot_refusal
+  pub too_short : all_whole x ≡ true → length b < 194 → Boots x serial name password b (Err ShortBuffer) b
+  unfolding boot_answer block_after boot_refusal booted
   too_short y l = let short = lt-ltb _ _ l in record { answer = rw (y, short); left = rw (y, short) }
 
-  pub answered : all_whole x ≡ true → 194 ≤ length b → {r : ℕ} {b' : List ℕ} → Answers x serial name password b r b' → Boots x serial name password b (Honors r) b'
-  unfolding boot_answer block_after boot_refusal
-  answered y g done = let fits = le-ltb _ _ g in
+  pub answered : all_whole x ≡ true → 194 ≤ length b → (h : Honor) {b' : List ℕ} → Answers x serial name password b (flag_of h) b' → Boots x serial name password b (Ok h) b'
+  unfolding boot_answer block_after boot_refusal booted
+  answered y g h done = let fits = le-ltb _ _ g in
       record { answer = rw (y, fits) (ap Honors done.answer); left = rw (y, fits) done.left }

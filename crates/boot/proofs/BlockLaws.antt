@@ -1,15 +1,18 @@
 -- The laws of specs/Block.antt: the entries of names that are all there, and how a block is put together.
+use Rattle.std.specs.Prelude.{Option, Some, None, is_some}
 use Prim.Native.Nat.{ℕ, ◌+◌, ◌-◌, ◌*◌, ◌/◌, ◌≤◌, ◌<◌}
 use native.Mathlib.Omega.{arith}
-use mathlib.Core.Path.{◌≡◌, ap, ◌∙◌}
-use mathlib.Core.Bool.{true}
+use mathlib.Core.Path.{◌≡◌, refl, sym, ap, subst, ◌∙◌}
+use mathlib.Core.Bool.{Bool, true, false, not}
 use mathlib.Core.List.{List, [], ◌∷◌, ◌++◌, append_assoc}
 use lib.ListN.{length, set, replicate, length-append, length-replicate}
 use Rattle.rows.specs.Rows.{part, put, join}
 use Rattle.rows.proofs.IndexLaws.{all_at}
 use Rattle.rows.proofs.BuildLaws.{drop_zeros}
 use Rattle.rows.proofs.RowLaws.{length_part, length_join, over_first, over_next, over_set}
-use Rattle.directory.specs.Directory.{files, file_entry, file_of, in_directory}
+use Rattle.rows.specs.Outcomes.{Finds}
+use Rattle.rows.proofs.OutcomeLaws.{finds_some}
+use Rattle.directory.specs.Directory.{files, file_entry, file_named, file_of, in_directory}
 use Rattle.directory.proofs.FileLaws.{there_at, length_entry}
 use Rattle.boot.specs.Choice.{choice_of, name_of, all_there}
 use Rattle.boot.specs.Block.{load_entry, load_entries, block_of}
@@ -23,6 +26,26 @@ module _ (dir names : List ℕ) (there : all_there dir names ≡ true) (k : ℕ)
   pub entry_long : length (load_entry dir names k) ≡ 16
   unfolding load_entry
   entry_long = length_entry dir (file_of dir (name_of names k)) name_file
+
+-- a name's file, by the test for none
+named : (dir name : List ℕ) (r : Option ℕ) → Finds (files dir) (file_of dir name) r → is_some r ≡ in_directory dir name
+unfolding file_of in_directory
+named dir name r h = finds_some (file_named dir name) (files dir) r h
+
+module _ (dir name : List ℕ) (r : Option ℕ) (h : Finds (files dir) (file_of dir name) r) where
+  pub file_missing : (none : Bool) → is_some r ≡ not none → none ≡ true → in_directory dir name ≡ false
+  file_missing none is e = sym (named dir name r h) ∙ is ∙ ap not e
+
+  pub file_there : (none : Bool) → is_some r ≡ not none → none ≡ false → in_directory dir name ≡ true
+  file_there none is e = sym (named dir name r h) ∙ is ∙ ap not e
+
+-- a search that finds something, and what it found
+pub finds_there : (n i : ℕ) (r : Option ℕ) → Finds n i r → i < n → is_some r ≡ true
+finds_there n i (Some k) h l = refl
+finds_there n i None h l = absurd (omega (arith, h))
+
+pub finds_is : (n i : ℕ) (r : Option ℕ) (k : ℕ) → Finds n i r → r ≡ Some k → k ≡ i
+finds_is n i r k h e = let at = subst (Finds n i) e h in at.0
 
 pub entry_is : (dir names : List ℕ) (k : ℕ) {file : ℕ} {e : List ℕ} → file ≡ file_of dir (name_of names k) → e ≡ file_entry dir file → e ≡ load_entry dir names k
 unfolding load_entry

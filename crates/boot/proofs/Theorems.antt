@@ -1,5 +1,6 @@
 -- What can be relied on: what each honor flag says, what is chosen, and what stands in the buffer. m, p and u are the rows of the
 -- machine, of its product and of the user.
+use Rattle.std.specs.Prelude.{Result, Ok, Err}
 use Prim.Native.Nat.{ℕ, ◌+◌, ◌*◌, ◌/◌, ◌%◌, ◌≤◌, ◌<◌}
 use native.Mathlib.Omega.{arith}
 use mathlib.Core.Path.{◌≡◌, refl, sym, ap, ◌∙◌}
@@ -22,9 +23,13 @@ use Rattle.boot.specs.Tables.{Tables, all_whole, iobyte, product_number, machine
 use Rattle.boot.specs.Systems.{system_rows, os_fits, product_fits, system_options, first_name, load_list, suits, fits, system_size, fits_exactly}
 use Rattle.boot.specs.Choice.{Choice, choice_of, fitting, exact, exact_of, smallest_of, chosen_for, chosen, name_of, all_there, machine_row, product_row, given, honor}
 use Rattle.boot.specs.Block.{load_entry, load_entries, configuration_of, boot_block}
-use Rattle.boot.specs.declared.Booted.{Booted}
-use Rattle.boot.specs.declared.Booted.TheVariants.{Refused, Honors}
-use Rattle.boot.specs.Answers.{boot_refusal, written, boot_answer, block_after, Boots}
+use Rattle.refusals.specs.declared.Refusal.{Refusal}
+use Rattle.refusals.specs.Refusals.{number}
+use Rattle.refusals.proofs.OutcomeLaws.{number_one}
+use Rattle.boot.specs.declared.Honor.{Honor}
+use Rattle.boot.specs.declared.Honor.TheVariants.{Exact, Smallest as SmallestOne, LoginPlease, Menu, Nothing}
+use Rattle.boot.specs.Honors.{flag_of}
+use Rattle.boot.specs.Answers.{Booted, Refused, Honors, booted, boot_refusal, written, boot_answer, block_after, Boots}
 use Rattle.boot.proofs.TableLaws.{products_most, configuration_long}
 use Rattle.boot.proofs.SystemLaws.{list_most}
 use Rattle.boot.proofs.EntryLaws.{entry_at, entry_unused, block_drives, block_iobyte, block_ahead, block_flag, block_entries, block_long}
@@ -300,25 +305,46 @@ refuses : Booted → Bool
 refuses (Refused k) = true
 refuses (Honors flag) = false
 
-number : Booted → ℕ
-number (Refused k) = k
-number (Honors flag) = flag
+number_in : Booted → ℕ
+number_in (Refused k) = k
+number_in (Honors flag) = flag
 
 module _ (x : Tables) (serial name password b : List ℕ) {b' : List ℕ} where
   -- a refusal is the rules' number and leaves the buffer as it was
-  pub refused_boot : {k : ℕ} → Boots x serial name password b (Refused k) b' → (k ≡ boot_refusal x b) × (b' ≡ b)
-  unfolding boot_answer block_after refuses number
-  refused_boot done = by_test (eqb (boot_refusal x b) 0)
+  pub refused_boot : (r : Refusal) → Boots x serial name password b (Err r) b' → (number r ≡ boot_refusal x b) × (b' ≡ b)
+  unfolding boot_answer block_after booted refuses number_in
+  refused_boot r done = by_test (eqb (boot_refusal x b) 0)
       (λ z. both refl (ap refuses done.answer ∙ (rw z)))
-      (λ n. (ap number done.answer ∙ (rw n), done.left ∙ (rw n)))
+      (λ n. (ap number_in done.answer ∙ (rw n), done.left ∙ (rw n)))
 
   -- any other answer is the honor flag: 4 leaves the buffer as it was, 0 to 3 the block and then the bytes that stood there
-  pub honored_boot : {flag : ℕ} → Boots x serial name password b (Honors flag) b' → (boot_refusal x b ≡ 0) × (flag ≡ honor x serial name password) × (flag ≡ 4 → b' ≡ b) × (flag < 4 → b' ≡ boot_block x serial name password ++ drop 194 b)
-  unfolding boot_answer refuses number
-  honored_boot {flag} done = by_test (eqb (boot_refusal x b) 0)
+  pub honored_boot : (h : Honor) → Boots x serial name password b (Ok h) b' → (boot_refusal x b ≡ 0) × (flag_of h ≡ honor x serial name password) × (flag_of h ≡ 4 → b' ≡ b) × (flag_of h < 4 → b' ≡ boot_block x serial name password ++ drop 194 b)
+  unfolding boot_answer booted refuses number_in
+  honored_boot h done = by_test (eqb (boot_refusal x b) 0)
       (λ z.
       let none = eqb-true (boot_refusal x b) 0 z in
-      let is : flag ≡ honor x serial name password = ap number done.answer ∙ (rw z) in
+      let is : flag_of h ≡ honor x serial name password = ap number_in done.answer ∙ (rw z) in
       let after = answered_after x serial name password b none done.left in
       (none, is, λ four. after.0 (sym is ∙ four), λ low. after.1 (rw is at low)))
       (λ n. let lie : false ≡ true = ap refuses done.answer ∙ (rw n) in both lie refl)
+
+-- what is told of two answers is one only where they are one
+flag_one : (g h : Honor) → flag_of g ≡ flag_of h → g ≡ h
+flag_one g h e = sym (honor_back g) ∙ ap honor_named e ∙ honor_back h
+  where
+    honor_named : ℕ → Honor
+    honor_named k = get_or (Exact ∷ SmallestOne ∷ LoginPlease ∷ Menu ∷ []) k Nothing
+
+    honor_back : (h : Honor) → honor_named (flag_of h) ≡ h
+    honor_back Exact = refl
+    honor_back SmallestOne = refl
+    honor_back LoginPlease = refl
+    honor_back Menu = refl
+    honor_back Nothing = refl
+
+pub booted_one : (r s : Result Honor Refusal) → booted r ≡ booted s → r ≡ s
+unfolding booted number_in refuses
+booted_one (Ok g) (Ok h) e = ap Ok (flag_one g h (ap number_in e))
+booted_one (Ok g) (Err k) e = absurd (cc)
+booted_one (Err j) (Ok h) e = absurd (cc)
+booted_one (Err j) (Err k) e = ap Err (number_one j k (ap number_in e))

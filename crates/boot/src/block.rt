@@ -46,13 +46,12 @@ fn put_entries(directory: &[u8], list: &[u8], block: &mut [u8])
     ensures { block.new ≡ put block.old 66 (join (load_entry directory.now list.now) (length list.now / 8)) }
 {
     for k in 0..list.len() / directory::NAME {
-        if let Some(file) = file_at(directory, list, k) {
-            rows::put(
-                block,
-                ENTRIES + ENTRY * k,
-                directory::entry_of(directory, file),
-            );
-        }
+        let file = file_at(directory, list, k).unwrap();
+        rows::put(
+            block,
+            ENTRIES + ENTRY * k,
+            directory::entry_of(directory, file),
+        );
     }
 }
 

@@ -9,7 +9,7 @@ mod systems;
 ghost use Rattle.std.specs.Prelude.{◌≡◌, ◌≤◌, ◌<◌, length};
 ghost use Rattle.boot.specs.Tables.{iobyte, machine_rows, product_rows};
 ghost use Rattle.boot.specs.Honors.{flag_of};
-ghost use Rattle.boot.specs.Choice.{chosen};
+ghost use Rattle.boot.specs.Choice.{machine_row, chosen};
 ghost use Rattle.boot.specs.Lent.{tables_of};
 ghost use Rattle.boot.specs.Block.{configuration_of};
 ghost use Rattle.boot.specs.Answers.{Boots};
@@ -72,38 +72,50 @@ struct Choice<'a> {
 }
 
 // Sends what the name and password get at the machine of row m, whose product is row p.
+#[tactic(auto, unfolding(crate::specs::Tables::machine_rows))]
 fn send_chosen(login: &Login, tables: &Tables, m: usize, p: usize, buffer: &mut [u8]) -> Honor
     requires { (m < machine_rows tables.now.machines.now) × (p < product_rows tables.now.products.now) × (194 ≤ length buffer.old) }
     ensures { Sends tables.now.directory.now (configuration_of (tables_of tables.now) login.now.name.now login.now.password.now) (iobyte tables.now.machines.now m) (chosen (tables_of tables.now) m p login.now.name.now login.now.password.now) buffer.old (flag_of result) buffer.new }
 {
     let iobyte = tables.machines[lookups::MACHINE * m + 11];
-    let Some(u) = tables.find_user(login.name, login.password) else {
-        let none = [0u8; lookups::CONFIGURATION];
-        return block::send(
-            tables.directory,
-            tables.login_please(p),
-            iobyte,
-            &none,
-            buffer,
-        );
-    };
-    let choice = tables.choose(m, p, u);
-    let own = tables.configuration(u);
-    block::send(tables.directory, choice, iobyte, &own, buffer)
+    match lookups::find_user(tables.users, login.name, login.password) {
+        Some(u) => {
+            let choice = tables.choose(m, p, u);
+            let own = tables.configuration(u);
+            block::send(tables.directory, choice, iobyte, &own, buffer)
+        }
+        None => {
+            let please = Choice {
+                honor: Honor::LoginPlease,
+                names: tables.login_please(p),
+            };
+            let none = [0u8; lookups::CONFIGURATION];
+            block::send(tables.directory, please, iobyte, &none, buffer)
+        }
+    }
 }
 
-// The honor, with the block for all but Nothing: that where the machine or its product has no row.
+// The honor at the machine of row m: Nothing where its product has no row.
+#[tactic(auto, unfolding(crate::specs::Tables::machine_rows))]
+fn answer_at(login: &Login, tables: &Tables, m: usize, buffer: &mut [u8]) -> Honor
+    requires { (m ≡ machine_row (tables_of tables.now) login.now.serial.now) × (m < machine_rows tables.now.machines.now) × (194 ≤ length buffer.old) }
+    ensures { Answers (tables_of tables.now) login.now.serial.now login.now.name.now login.now.password.now buffer.old (flag_of result) buffer.new }
+{
+    match tables.find_product(tables.machines[lookups::MACHINE * m + 4]) {
+        Some(p) => send_chosen(login, tables, m, p, buffer),
+        None => Honor::Nothing,
+    }
+}
+
+// The honor, with the block for all but Nothing: that where the machine has no row.
 fn answer(login: &Login, tables: &Tables, buffer: &mut [u8]) -> Honor
     requires { 194 ≤ length buffer.old }
     ensures { Answers (tables_of tables.now) login.now.serial.now login.now.name.now login.now.password.now buffer.old (flag_of result) buffer.new }
 {
-    let Some(m) = tables.find_machine(login.serial) else {
-        return Honor::Nothing;
-    };
-    let Some(p) = tables.find_product(tables.machines[lookups::MACHINE * m + 4]) else {
-        return Honor::Nothing;
-    };
-    send_chosen(login, tables, m, p, buffer)
+    match tables.find_machine(login.serial) {
+        Some(m) => answer_at(login, tables, m, buffer),
+        None => Honor::Nothing,
+    }
 }
 
 // Chooses the system of a login: 23 where a table is not of whole rows or too long, 13 where the buffer is shorter than the

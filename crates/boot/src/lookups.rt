@@ -5,11 +5,12 @@ ghost use Rattle.rows.specs.Words.{first, same};
 ghost use Rattle.rows.specs.Outcomes.{Finds};
 ghost use Rattle.rows.specs.Rows.{part};
 ghost use Rattle.terms.specs.Shortcuts.{matches};
-ghost use Rattle.boot.specs.Tables.{whole, all_whole, machine_rows, machine_of, product_rows, product_of, seven_bits, is_product, login_please as please_of, user_rows, user_of, configuration as configuration_at};
-ghost use Rattle.boot.specs.Choice.{choice_of};
+ghost use Rattle.boot.specs.Tables.{whole, all_whole, machine_rows, machine_of, product_rows, product_of, seven_bits, is_product, login_please as please_of, os_menu as menu_of, user_rows, user_of, configuration as configuration_at};
+ghost use Rattle.boot.specs.Choice.{chosen_for};
 ghost use Rattle.boot.specs.Lent.{tables_of, names_of};
 
-use crate::{Choice, Honor, Tables};
+use crate::systems::Systems;
+use crate::{Choice, Tables};
 use terms::names;
 use terms::names::Pattern;
 
@@ -40,6 +41,14 @@ fn product_rows(products: &[u8]) -> usize
     rows::find(products, PRODUCT, n, &[0u8]).unwrap_or(n)
 }
 
+// The name that begins at `at` in row p.
+fn product_name(products: &[u8], p: usize, at: usize) -> &[u8]
+    requires { (p < product_rows products.now) × (at + 8 ≤ 25) }
+    ensures { (result.now ≡ part products.now (25 * p + at) 8) × (length result.now ≡ 8) }
+{
+    rows::part(products, PRODUCT * p + at, 8)
+}
+
 // A product number without the bit that tells the console.
 pub fn seven_bits(number: u8) -> u8
     ensures { (result ≡ seven_bits number) × (result < 128) }
@@ -53,8 +62,23 @@ fn is_user(users: &[u8], i: usize, pattern: Pattern, password: &[u8]) -> bool
     ensures { result ≡ (matches (part users.now (16 * i) 8) pattern && same (part users.now (16 * i + 8) 6) password.now) }
 {
     let at = USER * i;
-    names::matches(rows::part(users, at, 8), pattern)
-        && rows::is_same(rows::part(users, at + 8, 6), password)
+    if !names::matches(rows::part(users, at, 8), pattern) {
+        return false;
+    }
+    rows::is_same(rows::part(users, at + 8, 6), password)
+}
+
+// The first user with the name and the password.
+pub fn find_user(users: &[u8], name: &[u8; 8], password: &[u8; 6]) -> Option<usize>
+    ensures { Finds (user_rows users.now) (user_of users.now name.now password.now) result }
+{
+    let pattern = names::pattern_of(name);
+    for i in 0..users.len() / USER {
+        if is_user(users, i, pattern, password) {
+            return Some(i);
+        }
+    }
+    None
 }
 
 impl<'a> Tables<'a> {
@@ -62,12 +86,22 @@ impl<'a> Tables<'a> {
     pub fn are_whole(&self) -> bool
         ensures { result ≡ all_whole (tables_of self.now) }
     {
-        is_whole(self.machines, MACHINE, 128)
-            && is_whole(self.products, PRODUCT, 40)
-            && is_whole(self.users, USER, 128)
-            && is_whole(self.configurations, CONFIGURATION, 128)
-            && is_whole(self.systems, SYSTEM, 128)
-            && is_whole(self.directory, directory::ROW, 128)
+        if !is_whole(self.machines, MACHINE, 128) {
+            return false;
+        }
+        if !is_whole(self.products, PRODUCT, 40) {
+            return false;
+        }
+        if !is_whole(self.users, USER, 128) {
+            return false;
+        }
+        if !is_whole(self.configurations, CONFIGURATION, 128) {
+            return false;
+        }
+        if !is_whole(self.systems, SYSTEM, 128) {
+            return false;
+        }
+        is_whole(self.directory, directory::ROW, 128)
     }
 
     // The first machine with the serial number.
@@ -91,28 +125,22 @@ impl<'a> Tables<'a> {
         None
     }
 
-    // Login Please, at the machine whose product is row p.
-    pub(crate) fn login_please(&self, p: usize) -> Choice<'a>
+    // The name of Login Please, at the machine whose product is row p.
+    #[tactic(auto, unfolding(crate::specs::Tables::login_please))]
+    pub fn login_please(&self, p: usize) -> &'a [u8]
         requires { p < product_rows self.now.products.now }
-        ensures { (names_of result ≡ choice_of 2 (please_of self.now.products.now p)) × (length result.names.now ≡ 8) }
+        ensures { (result.now ≡ please_of self.now.products.now p) × (length result.now ≡ 8) }
     {
-        Choice {
-            honor: Honor::LoginPlease,
-            names: rows::part(self.products, PRODUCT * p + 9, 8),
-        }
+        product_name(self.products, p, 9)
     }
 
-    // The first user with the name and the password.
-    pub fn find_user(&self, name: &[u8; 8], password: &[u8; 6]) -> Option<usize>
-        ensures { Finds (user_rows self.now.users.now) (user_of self.now.users.now name.now password.now) result }
+    // The name of OS Menu.
+    #[tactic(auto, unfolding(crate::specs::Tables::os_menu))]
+    fn os_menu(&self, p: usize) -> &'a [u8]
+        requires { p < product_rows self.now.products.now }
+        ensures { (result.now ≡ menu_of self.now.products.now p) × (length result.now ≡ 8) }
     {
-        let pattern = names::pattern_of(name);
-        for i in 0..self.users.len() / USER {
-            if is_user(self.users, i, pattern, password) {
-                return Some(i);
-            }
-        }
-        None
+        product_name(self.products, p, 17)
     }
 
     // The drives and the type-ahead of row i; zeros where there is no such row.
@@ -123,5 +151,25 @@ impl<'a> Tables<'a> {
             return [0u8; CONFIGURATION];
         }
         rows::array_at(self.configurations, CONFIGURATION * i)
+    }
+
+    // The choice for the user of row u at the machine of row m, whose product is row p.
+    #[tactic(auto, unfolding(crate::specs::Tables::machine_rows, crate::specs::Tables::user_rows))]
+    pub(crate) fn choose(&self, m: usize, p: usize, u: usize) -> Choice<'a>
+        requires { (m < machine_rows self.now.machines.now) × (p < product_rows self.now.products.now) × (u < user_rows self.now.users.now) }
+        ensures { (names_of result ≡ chosen_for (tables_of self.now) m p u) × (length result.names.now ≤ 64) }
+    {
+        let machine = MACHINE * m;
+        let user = USER * u;
+        let options = rows::part(self.machines, machine + 5, 6);
+        let wanted = self.users[user + 14];
+        let small = self.users[user + 15] % 2 == 1;
+        let systems = Systems::new(
+            self.systems,
+            self.directory,
+            wanted,
+            self.machines[machine + 4],
+        );
+        systems.choose(options, small, self.os_menu(p))
     }
 }

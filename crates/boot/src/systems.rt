@@ -1,25 +1,33 @@
 // The OS table (specs/Systems.antt): which systems fit a user and his machine, and which of them he gets.
-ghost use Rattle.std.specs.Prelude.{◌≡◌, ◌+◌, ◌*◌, ◌≤◌, ◌<◌, length};
+ghost use Rattle.std.specs.Prelude.{ℕ, slice_index, ◌≡◌, ◌+◌, ◌*◌, ◌≤◌, ◌<◌, length};
+ghost use Rattle.rows.specs.Rows.{part};
 ghost use Rattle.rows.specs.Words.{first, smallest};
 ghost use Rattle.rows.specs.Numbers.{low_first, bit_at};
 ghost use Rattle.rows.specs.Outcomes.{Finds};
 ghost use Rattle.directory.specs.Directory.{files, file_of};
-ghost use Rattle.boot.specs.Tables.{seven_bits, machine_rows, product_rows, user_rows};
+ghost use Rattle.boot.specs.Tables.{seven_bits};
 ghost use Rattle.boot.specs.Systems.{system_rows, os_fits, first_name, load_list, suits, fits, system_size, fits_exactly};
-ghost use Rattle.boot.specs.Choice.{chosen_for};
-ghost use Rattle.boot.specs.Lent.{tables_of, names_of};
-ghost use Rattle.boot.specs.Inner.{Weighs};
+ghost use Rattle.boot.specs.Lent.{names_of};
+ghost use Rattle.boot.specs.Inner.{Weighs, lighter, smallest_choice, choice_among};
 
-use crate::{Choice, Honor, Tables, lookups};
+use crate::{Choice, Honor, lookups};
 
 // The systems, the directory that their files are in, and what is asked of a system: it is the one wanted, and for the
 // product.
 #[derive(Clone, Copy)]
-struct Systems<'a> {
+pub struct Systems<'a> {
     table: &'a [u8],
     directory: &'a [u8],
     wanted: u8,
     product: u8,
+    ghost bytes: { (k : ℕ) → slice_index directory.now k < 256 },
+}
+
+// A system that fits, by its row, and the length of its file.
+#[derive(Clone, Copy)]
+struct Lightest {
+    row: usize,
+    size: u16,
 }
 
 // A system of this number is the one wanted: the kind matches, and the one of its kind does or is not asked for.
@@ -42,27 +50,64 @@ fn in_map(map: &[u8], product: u8) -> bool
     (byte >> (bit % 8)) & 1 == 1
 }
 
+// The n bytes of row i that begin at `at`.
+#[tactic(auto, unfolding(crate::specs::Systems::system_rows))]
+fn field(table: &[u8], i: usize, at: usize, n: usize) -> &[u8]
+    requires { (i < system_rows table.now) × (at + n ≤ 96) }
+    ensures { (result.now ≡ part table.now (96 * i + at) n) × (length result.now ≡ n) }
+{
+    rows::part(table, lookups::SYSTEM * i + at, n)
+}
+
 // The load list of system i: its names before the first null name.
 fn load_list(table: &[u8], i: usize) -> &[u8]
     requires { i < system_rows table.now }
     ensures { (result.now ≡ load_list table.now i) × (length result.now ≤ 64) }
 {
-    let names = rows::part(table, lookups::SYSTEM * i + 23, 64);
-    match rows::find(names, directory::NAME, 8, &[0u8; 8]) {
-        Some(n) => &names[..directory::NAME * n],
-        None => names,
+    let names = field(table, i, 23, 64);
+    let n = rows::find(names, directory::NAME, 8, &[0u8; 8]).unwrap_or(8);
+    rows::part(names, 0, directory::NAME * n)
+}
+
+// The lighter of the lightest so far and of system i, where that fits: the one before it where both weigh the same.
+fn lighter(best: Option<Lightest>, i: usize, size: Option<u16>) -> Option<Lightest>
+    ensures { result ≡ lighter best i size }
+{
+    match (best, size) {
+        (best, None) => best,
+        (None, Some(size)) => Some(Lightest { row: i, size }),
+        (Some(b), Some(size)) => {
+            if size < b.size {
+                Some(Lightest { row: i, size })
+            } else {
+                best
+            }
+        }
     }
 }
 
 impl<'a> Systems<'a> {
+    pub fn new(table: &'a [u8], directory: &'a [u8], wanted: u8, product: u8) -> Systems<'a>
+        ensures { (result.table.now ≡ table.now) × (result.directory.now ≡ directory.now) × (result.wanted ≡ wanted) × (result.product ≡ product) }
+    {
+        Systems {
+            table,
+            directory,
+            wanted,
+            product,
+        }
+    }
+
     // System i is the one wanted and for the product.
+    #[tactic(auto, unfolding(crate::specs::Systems::system_rows))]
     fn is_suited(&self, i: usize) -> bool
         requires { i < system_rows self.now.table.now }
         ensures { result ≡ suits self.now.table.now self.now.wanted self.now.product i }
     {
-        let at = lookups::SYSTEM * i;
-        os_fits(self.table[at], self.wanted)
-            && in_map(rows::part(self.table, at + 1, 16), self.product)
+        if !os_fits(self.table[lookups::SYSTEM * i], self.wanted) {
+            return false;
+        }
+        in_map(field(self.table, i, 1, 16), self.product)
     }
 
     // The file that the first name of system i is.
@@ -70,30 +115,7 @@ impl<'a> Systems<'a> {
         requires { i < system_rows self.now.table.now }
         ensures { Finds (files self.now.directory.now) (file_of self.now.directory.now (first_name self.now.table.now i)) result }
     {
-        let name = rows::part(self.table, lookups::SYSTEM * i + 23, directory::NAME);
-        directory::find(self.directory, name)
-    }
-
-    // System i fits, and its option map is this one.
-    fn fits_exactly(&self, i: usize, options: &[u8]) -> bool
-        requires { i < system_rows self.now.table.now }
-        ensures { result ≡ fits_exactly self.now.table.now self.now.directory.now self.now.wanted self.now.product options.now i }
-    {
-        self.is_suited(i)
-            && self.first_file(i).is_some()
-            && rows::is_same(rows::part(self.table, lookups::SYSTEM * i + 17, 6), options)
-    }
-
-    // The first system that fits exactly.
-    fn find_exact(&self, options: &[u8]) -> Option<usize>
-        ensures { Finds (system_rows self.now.table.now) (first (fits_exactly self.now.table.now self.now.directory.now self.now.wanted self.now.product options.now) (system_rows self.now.table.now)) result }
-    {
-        for i in 0..self.table.len() / lookups::SYSTEM {
-            if self.fits_exactly(i, options) {
-                return Some(i);
-            }
-        }
-        None
+        directory::find(self.directory, field(self.table, i, 23, directory::NAME))
     }
 
     // The size of system i, the length of the file that its first name is, where it fits.
@@ -104,57 +126,84 @@ impl<'a> Systems<'a> {
         if !self.is_suited(i) {
             return None;
         }
-        let file = self.first_file(i)?;
-        Some(directory::length_of(self.directory, file))
+        match self.first_file(i) {
+            Some(file) => Some(directory::length_of(self.directory, file)),
+            None => None,
+        }
+    }
+
+    // System i fits, and its option map is this one.
+    fn fits_exactly(&self, i: usize, options: &[u8]) -> bool
+        requires { i < system_rows self.now.table.now }
+        ensures { result ≡ fits_exactly self.now.table.now self.now.directory.now self.now.wanted self.now.product options.now i }
+    {
+        if self.size_of(i).is_none() {
+            return false;
+        }
+        rows::is_same(field(self.table, i, 17, 6), options)
+    }
+
+    // The first system that fits exactly.
+    #[tactic(auto, unfolding(crate::specs::Systems::system_rows))]
+    fn find_exact(&self, options: &[u8]) -> Option<usize>
+        ensures { Finds (system_rows self.now.table.now) (first (fits_exactly self.now.table.now self.now.directory.now self.now.wanted self.now.product options.now) (system_rows self.now.table.now)) result }
+    {
+        let n = self.table.len() / lookups::SYSTEM;
+        for i in 0..n {
+            if self.fits_exactly(i, options) {
+                return Some(i);
+            }
+        }
+        None
     }
 
     // The smallest system that fits, the lower row on a tie.
+    #[tactic(auto, unfolding(crate::specs::Systems::system_rows))]
     fn find_smallest(&self) -> Option<usize>
         ensures { Finds (system_rows self.now.table.now) (smallest (fits self.now.table.now self.now.directory.now self.now.wanted self.now.product) (system_size self.now.table.now self.now.directory.now) (system_rows self.now.table.now)) result }
     {
-        let mut best: Option<(usize, u16)> = None;
-        for i in 0..self.table.len() / lookups::SYSTEM {
-            if let Some(size) = self.size_of(i) {
-                if best.is_none_or(|(_, least)| size < least) {
-                    best = Some((i, size));
-                }
-            }
+        let n = self.table.len() / lookups::SYSTEM;
+        let mut best: Option<Lightest> = None;
+        for i in 0..n {
+            best = lighter(best, i, self.size_of(i));
         }
-        best.map(|(row, _)| row)
+        match best {
+            Some(b) => Some(b.row),
+            None => None,
+        }
     }
-}
 
-impl<'a> Tables<'a> {
-    // The choice for the user of row u at the machine of row m, whose product is row p.
-    pub(crate) fn choose(&self, m: usize, p: usize, u: usize) -> Choice<'a>
-        requires { (m < machine_rows self.now.machines.now) × (p < product_rows self.now.products.now) × (u < user_rows self.now.users.now) }
-        ensures { (names_of result ≡ chosen_for (tables_of self.now) m p u) × (length result.names.now ≤ 64) }
+    // The smallest system; OS Menu for none.
+    fn choose_smallest(&self, menu: &'a [u8]) -> Choice<'a>
+        requires { length menu.now ≤ 64 }
+        ensures { (names_of result ≡ smallest_choice self.now.table.now self.now.directory.now self.now.wanted self.now.product menu.now) × (length result.names.now ≤ 64) }
     {
-        let machine = rows::part(self.machines, lookups::MACHINE * m, lookups::MACHINE);
-        let user = rows::part(self.users, lookups::USER * u, lookups::USER);
-        let systems = Systems {
-            table: self.systems,
-            directory: self.directory,
-            wanted: user[14],
-            product: machine[4],
-        };
-        if user[15] % 2 == 0 {
-            if let Some(i) = systems.find_exact(&machine[5..11]) {
-                return Choice {
-                    honor: Honor::Exact,
-                    names: load_list(self.systems, i),
-                };
-            }
-        }
-        match systems.find_smallest() {
+        match self.find_smallest() {
             Some(i) => Choice {
                 honor: Honor::Smallest,
-                names: load_list(self.systems, i),
+                names: load_list(self.table, i),
             },
             None => Choice {
                 honor: Honor::Menu,
-                names: rows::part(self.products, lookups::PRODUCT * p + 17, 8),
+                names: menu,
             },
+        }
+    }
+
+    // The system that a user gets, by its load list: the exact one where he has full service, or else the smallest.
+    pub(crate) fn choose(&self, options: &[u8], small: bool, menu: &'a [u8]) -> Choice<'a>
+        requires { length menu.now ≤ 64 }
+        ensures { (names_of result ≡ choice_among self.now.table.now self.now.directory.now self.now.wanted self.now.product options.now small menu.now) × (length result.names.now ≤ 64) }
+    {
+        if small {
+            return self.choose_smallest(menu);
+        }
+        match self.find_exact(options) {
+            Some(i) => Choice {
+                honor: Honor::Exact,
+                names: load_list(self.table, i),
+            },
+            None => self.choose_smallest(menu),
         }
     }
 }

@@ -1,0 +1,7 @@
+use Rattle.boot.specs.Tables.{is_product, product_rows}
+use Rattle.rows.proofs.IndexLaws.{Searching}
+use mathlib.Core.Path.{◌≡◌}
+use Rattle.boot.proofs.Tables.find_product.Given as goal
+
+abbrev pub invariant-loop-i : goal.invariant-loop-i
+invariant-loop-i l = Searching (is_product l.fn.self.products.now l.number) l.i-end l.i
