@@ -24,16 +24,11 @@ pub const BYTES: usize = 1024;
 const FREE_ROW: [u8; 16] = [0xFF, 0, 0, 0, 0, 0, 0, 0, 0, 0, 0, 0, 0, 0, 0, 0];
 
 // The lowest free row.
-#[tactic(auto, using(rows::proofs::IndexLaws::search_on, rows::proofs::IndexLaws::search_hit, rows::proofs::IndexLaws::search_ends), unfolding(rows::specs::Words::any, crate::specs::Table::lowest_free))]
+#[tactic(auto, unfolding(crate::specs::Table::lowest_free))]
 fn lowest_free(table: &[u8]) -> Option<usize>
     ensures { Finds (row_count table.now) (lowest_free_of table.now) result }
 {
-    for i in 0..table.len() / ROW {
-        if row::is_free(table, i) {
-            return Some(i);
-        }
-    }
-    None
+    row::strings(table).first_free()
 }
 
 // Lock: 02 for an illegal length, 81 held by the sender, 01 held by another, 82 no free row, 00 granted.

@@ -3,7 +3,7 @@ ghost use Rattle.std.specs.Prelude.{◌≡◌, ◌+◌, ◌*◌, ◌≤◌, leng
 ghost use Rattle.rows.specs.Outcomes.{Finds};
 ghost use Rattle.rows.specs.Rows.{set_row};
 ghost use Rattle.locks.specs.Row.{lock_rows, row_of};
-ghost use Rattle.locks.specs.Table.{row_count, held_at, free_at, owner_at};
+ghost use Rattle.locks.specs.Table.{row_count, held_at, owner_at};
 
 use crate::ROW;
 use terms::LockString;
@@ -16,15 +16,6 @@ pub fn owner_of(table: &[u8], i: usize) -> u8
     ensures { result ≡ owner_at table.now i }
 {
     table[ROW * i]
-}
-
-// Row i is free.
-#[tactic(auto, unfolding(crate::specs::Table::owner_at, crate::specs::Row::owner, terms::specs::Tables::row_free, terms::specs::Tables::row_in, terms::specs::Tables::is_free))]
-pub fn is_free(table: &[u8], i: usize) -> bool
-    requires { 16 * i + 16 ≤ length table.now }
-    ensures { result ≡ free_at table.now i }
-{
-    owner_of(table, i) == 0xFF
 }
 
 // The rows as they hold their strings.

@@ -39,6 +39,19 @@ impl Table<'_> {
         self.bytes[self.shape.width * i] == self.shape.free
     }
 
+    // The first free row.
+    #[tactic(auto, using(rows::proofs::IndexLaws::search_on, rows::proofs::IndexLaws::search_hit, rows::proofs::IndexLaws::search_ends), unfolding(rows::specs::Words::any))]
+    pub fn first_free(&self) -> Option<usize>
+        ensures { Finds self.now.count (first (row_free self.now.shape self.now.bytes.now) self.now.count) result }
+    {
+        for i in 0..self.count {
+            if self.is_free(i) {
+                return Some(i);
+            }
+        }
+        None
+    }
+
     // Where the string of row i stands.
     fn string_at(&self, i: usize) -> usize
         requires { i < self.now.count }
