@@ -7,7 +7,7 @@ use mathlib.Core.List.{List, []}
 use lib.Dec.{ltb}
 use lib.ListN.{length, take, set, drop_of_length-le, get_or-eq_default}
 use lib.Seq.{get_or-set_same}
-use borrow.Author.Tests.{ne_eqb, ltb-true, ltb-false}
+use borrow.Author.Tests.{ne_eqb, lt-ltb, ltb-true, ltb-false}
 use Rattle.std.specs.Prelude.{Result, Ok, Err}
 use Rattle.refusals.specs.declared.Refusal.{Refusal}
 use Rattle.refusals.specs.declared.Refusal.TheVariants.{BadTables}
@@ -30,6 +30,7 @@ use Rattle.master.specs.Tables.{good_tables}
 use Rattle.master.specs.Refusals.{unknown}
 use Rattle.master.specs.Polls.{station_at, with_counts, after_turn, poll_refusal, Polls, turn_refusal, due_now, out_now, station_turn, placing, poll_effect}
 use Rattle.master.specs.RowPolls.{row_refusal, RowPolls, row_effect}
+use Rattle.master.specs.Inner.{read_at as place_read, Lends, written_back}
 use Rattle.master.proofs.Outcomes.{no_answer}
 use Rattle.master.proofs.PollLaws.{seated, polls_refused, poll_bad_tables}
 use Rattle.master.specs.Effects.{Effect, unless, Does}
@@ -127,6 +128,19 @@ module _ (n : ℕ) (heard : Bool) (w t : List ℕ) (stands : is_row w ≡ true) 
           let s = (turn turned).records in
           let back = ap (λ (l : List Station). station_in l n) b.records ∙ get_or-set_same xs n s absent (omega (arith, length_stations w, ties_below)) in
           rw (poll_turn turned) (record { answer = b.answer; locks = b.locks; records = ap (λ (s : Station). set_row 18 w n (bytes_of s)) back })
+
+  -- the same where of the row that is left only the record read is known: the turn over w, where that is written back
+  module _ (s : Station) (t' : List ℕ) where
+    abbrev left : List Station
+    left = (row_effect n heard xs t).records
+
+    pub row_ties : (r : Result Turned Refusal) → Lends n heard w t r t' s → Polls n heard t w r t' (written_back n r s w)
+    unfolding written_back place_read
+    row_ties (Err r) a = ties_refused left t' r (record { answer = a.answer; locks = a.locks; records = refl })
+    row_ties (Ok x) a =
+        let b : RowPolls n heard xs t (Ok x) left t' = record { answer = a.answer; locks = a.locks; records = refl } in
+        let own : s ≡ station_in left n = a.records ∙ rw (lt-ltb n numbers (ties_below left t' x b)) refl in
+        rw own (ties_turned left t' x b)
 
 -- bytes in which no row stands are bad tables
 pub row_missing : (t w : List ℕ) → is_row w ≡ false → good_tables t w ≡ false
