@@ -1,4 +1,3 @@
-use native.Mathlib.Omega.{arith}
 use Rattle.framing.proofs.ReadLaws.{read_refused, read_13, read_data}
 use borrow.Author.Rules.{rules}
 use Rattle.framing.proofs.read.Goals as goal
@@ -10,14 +9,6 @@ returns-in_err-content c =
 
 pub returns-then-data-content : goal.returns-then-data-content
 returns-then-data-content c = read_13 _ _ _ _ _ c.in_ok-content.ensures _ c.if-data-content.true
-
-pub deliver-user-requires : goal.deliver-user-requires
-deliver-user-requires c =
-    let holds = c.in_ok-content.ensures in
-    (holds.inside, omega (arith, holds.long), c.if-data-content.false)
-
-pub overflow_cast-length : goal.overflow_cast-length
-overflow_cast-length c = let holds = c.in_ok-content.ensures in omega (arith, holds.most)
 
 pub returns : goal.returns
 returns c = let got = c.deliver-user.ensures in read_data _ _ _ _ _ c.in_ok-content.ensures _ c.if-data-content.false _ _ got.0 got.1

@@ -14,8 +14,5 @@ deliver-user-requires c =
     let least = c.min-held.ensures in
     (holds.inside, omega (arith, holds.long, least), omega (arith, least))
 
-pub overflow_cast-length : goal.overflow_cast-length
-overflow_cast-length c = let holds = c.in_ok-content.ensures in omega (arith, holds.most)
-
 pub returns : goal.returns
 returns c = let got = c.deliver-user.ensures in read_start _ _ _ _ _ c.in_ok-content.ensures _ _ _ _ c.min-held.ensures got.0 got.1

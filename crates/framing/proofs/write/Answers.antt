@@ -21,9 +21,6 @@ returns-then-bits-div_ceil c =
     written_13 a.user a.«data».now _ some c.if-data-gt1024.false c.count-count.result
     (c.count-count.ensures.0 ∙ ap length (with_check a.user sum.result a.«data».now sum.ensures)) (omega (arith, c.if-bits-div_ceil.true, c.div_ceil.ensures))
 
-pub overflow_cast-result : goal.overflow_cast-result
-overflow_cast-result c = omega (arith, c.count-count.ensures.1)
-
 pub returns : goal.returns
 returns c =
     let a = c.args in

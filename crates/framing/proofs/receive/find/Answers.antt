@@ -5,15 +5,9 @@ use lib.ListN.{length}
 use Rattle.framing.specs.Bits.{to_bits}
 use Rattle.framing.specs.Reading.{scan_refusal}
 use Rattle.framing.proofs.BitLaws.{length_to_bits}
-use Rattle.framing.proofs.ScanLaws.{scan_starts, scan_seven, scan_one, scan_closes, scan_after, scan_ends}
+use Rattle.framing.proofs.ScanLaws.{scan_seven, scan_one, scan_closes, scan_after, scan_ends}
 use Rattle.framing.proofs.QuietLaws.{scan_passed}
 use Rattle.framing.proofs.receive.find.Goals as goal
-
-pub loop-at-init : goal.loop-at-init
-loop-at-init c = scan_starts _ _ c.requires.0
-
-pub bit_at-bit-requires : goal.bit_at-bit-requires
-bit_at-bit-requires c = omega (arith, c.loop-at-test.true, c.requires.1)
 
 pub returns-then-ones-eq6 : goal.returns-then-ones-eq6
 unfolding scan_refusal
@@ -24,9 +18,6 @@ returns-then-ones-eq6 c =
     let bit = c.bit_at-bit in
     rw (sym (scan_seven (to_bits a.s.now) a.n at.from at.at at.ones (omega (arith, length_to_bits a.s.now, w)) at.invariant c.loop-at-test.true (sym bit.ensures ∙ c.if-bit.true) c.if-ones-eq6.true))
 
-pub overflow_add-ones : goal.overflow_add-ones
-overflow_add-ones c = omega (arith, c.loop-at.invariant.few)
-
 pub loop-at-preserved-then-bit : goal.loop-at-preserved-then-bit
 loop-at-preserved-then-bit c =
     let at = c.loop-at in
@@ -34,14 +25,6 @@ loop-at-preserved-then-bit c =
     let w = c.requires.1 in
     let bit = c.bit_at-bit in
     scan_one (to_bits a.s.now) a.n at.from at.at at.ones (omega (arith, length_to_bits a.s.now, w)) at.invariant c.loop-at-test.true (sym bit.ensures ∙ c.if-bit.true) c.if-ones-eq6.false
-
-pub overflow_sub-at : goal.overflow_sub-at
-overflow_sub-at c = omega (arith, c.loop-at.invariant.order)
-
-pub overflow_sub-to : goal.overflow_sub-to
-overflow_sub-to c =
-    let at = c.loop-at in
-    omega (arith, at.invariant.order, at.invariant.opened)
 
 pub returns-then-closes : goal.returns-then-closes
 returns-then-closes c =
@@ -60,15 +43,6 @@ invariant_of-result c =
     let bit = c.bit_at-bit in
     let closed = scan_closes (to_bits a.s.now) a.n at.from at.at at.ones (omega (arith, length_to_bits a.s.now, w)) at.invariant c.loop-at-test.true (sym bit.ensures ∙ c.if-bit.false) (sym c.closes.ensures ∙ c.if-closes.true) in
     record { order = closed.1.0 }
-
-pub quiet-q-requires : goal.quiet-q-requires
-quiet-q-requires c =
-    let a = c.args in
-    let pre = c.requires in
-    (pre.1, omega (arith, c.loop-at-test.true))
-
-pub loop-at-smaller : goal.loop-at-smaller
-loop-at-smaller c = omega (arith, c.quiet-q.ensures.order, c.quiet-q.ensures.inside, c.loop-at-test.true)
 
 pub loop-at-preserved : goal.loop-at-preserved
 loop-at-preserved c =

@@ -11,9 +11,6 @@ use Rattle.framing.proofs.send.count_bytes.Goals as goal
 pub loop-byte-init : goal.loop-byte-init
 loop-byte-init c = (omega arith, counts_none _ c.args.bytes.now)
 
-pub count_byte-t-requires : goal.count_byte-t-requires
-count_byte-t-requires c = omega (arith, c.loop-byte.invariant.0, c.loop-byte-test.true, c.requires)
-
 pub loop-byte-preserved : goal.loop-byte-preserved
 loop-byte-preserved c =
     let at = c.loop-byte in

@@ -6,9 +6,6 @@ use Rattle.framing.specs.Inner.{place}
 use Rattle.framing.proofs.PenLaws.{acc_small, left_short, left_small, lays_short, lays_full}
 use Rattle.framing.proofs.send.put.Goals as goal
 
-pub raised-requires : goal.raised-requires
-raised-requires c = let run = c.args.run in (omega (arith, run.small, pow_mono {i = run.count} {j = 8} run.short), c.args.pen.short)
-
 pub overflow_add-acc : goal.overflow_add-acc
 overflow_add-acc c =
     let a = c.args in

@@ -30,8 +30,5 @@ loop-byte-preserved c =
       rw (bits_more s i c.loop-byte-test.true) (sends_both (to_bits (take i s)) (bits_of 8 (get_or s i 0)) at.invariant.0 at.invariant.1 more.ensures),
     )
 
-pub shape_of-out : goal.shape_of-out
-shape_of-out c = c.loop-byte.invariant.0
-
 pub returns : goal.returns
 returns c = let at = c.loop-byte in rw (sym (take_all at.byte-index c.args.bytes.now c.loop-byte-test.false)) at.invariant.1

@@ -4,9 +4,6 @@ use lib.ListN.{length}
 use Rattle.framing.proofs.BitLaws.{length_bits_of}
 use Rattle.framing.proofs.send.put_half.Goals as goal
 
-pub put_in-run-requires : goal.put_in-run-requires
-put_in-run-requires c = (c.args.pen.few, c.requires.0)
-
 pub put-requires : goal.put-requires
 put-requires c = let run = c.put_in-run in omega (arith, c.requires.1, sym (length_bits_of run.result.count run.result.bits) ∙ ap length run.ensures.0.bits)
 

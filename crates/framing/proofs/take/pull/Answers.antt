@@ -1,10 +1,6 @@
-use native.Mathlib.Omega.{arith}
 use Rattle.framing.specs.Bits.{to_bits}
-use Rattle.framing.proofs.TakeLaws.{goes_none, goes_both, coming_more}
+use Rattle.framing.proofs.TakeLaws.{goes_both, coming_more}
 use Rattle.framing.proofs.take.pull.Goals as goal
-
-pub loop-r-init : goal.loop-r-init
-loop-r-init c = let pre = c.requires in (goes_none _ _ _ pre.1, pre.2)
 
 pub step-r-requires : goal.step-r-requires
 step-r-requires c =
@@ -12,13 +8,7 @@ step-r-requires c =
     let a = c.args in
     (c.requires.0, c.loop-r-test.true, coming_more (to_bits a.s.now) a.to at.r c.loop-r-test.true at.invariant.1)
 
-pub loop-r-smaller : goal.loop-r-smaller
-loop-r-smaller c = omega (arith, c.step-r.ensures.0.inside, c.step-r.ensures.1)
-
 pub loop-r-preserved : goal.loop-r-preserved
 loop-r-preserved c =
     let at = c.loop-r in
     (goes_both _ _ _ at.r c.step-r.result at.invariant.0 c.step-r.ensures.0, rw c.step-r.ensures.0.same at.invariant.1)
-
-pub returns : goal.returns
-returns c = (c.loop-r.invariant.0, c.loop-r-test.false)

@@ -6,22 +6,11 @@ use Rattle.framing.proofs.take.sum.Goals as goal
 pub loop-t-init : goal.loop-t-init
 loop-t-init c = let new = c.new-t.ensures in (sum_starts _ _ _ _ c.args.span.order new.0 new.1 new.2 new.3, omega arith)
 
-pub step-t-requires : goal.step-t-requires
-step-t-requires c = (c.requires, c.loop-t.invariant.1, c.loop-t-test.true)
-
 pub overflow_add-bytes : goal.overflow_add-bytes
 overflow_add-bytes c =
     let at = c.loop-t in
     let a = c.args in
     record { fits = omega (arith, sum_fits (to_bits a.s.now) a.span.from a.span.to at.register at.bytes at.t at.invariant.0) }
-
-pub rest_of-t-requires : goal.rest_of-t-requires
-rest_of-t-requires c = c.if-t-ge8.true
-
-pub loop-t-smaller-then-t-ge8 : goal.loop-t-smaller-then-t-ge8
-loop-t-smaller-then-t-ge8 c =
-    let step = c.step-t.ensures in
-    omega (arith, c.rest_of-t.ensures.0, step.1, step.0.inside)
 
 pub loop-t-preserved-then-t-ge8 : goal.loop-t-preserved-then-t-ge8
 loop-t-preserved-then-t-ge8 c =
@@ -33,9 +22,6 @@ loop-t-preserved-then-t-ge8 c =
           rest.0 rest.1 rest.2 rest.3 c.byte_of.ensures c.add_byte-register.ensures,
       omega (arith, rest.3, step.result.short),
     )
-
-pub loop-t-smaller : goal.loop-t-smaller
-loop-t-smaller c = let step = c.step-t.ensures in omega (arith, step.1, step.0.inside)
 
 pub loop-t-preserved : goal.loop-t-preserved
 loop-t-preserved c =
