@@ -32,7 +32,7 @@ use terms::{Address, Partition, Place, Volume};
 pub const ROOM: usize = 3593;
 
 // A partition row without its name and password.
-#[derive(Clone, Copy)]
+#[derive(Clone, Copy, Debug, PartialEq, Eq)]
 pub struct PartitionRow {
     pub volume: Volume,
     pub partition: Partition,

@@ -42,7 +42,7 @@ impl<'a> Partitions<'a> {
         true
     }
 
-    // The first of n rows that overlaps a row before it, or n. Each is searched for.
+    // The first of n rows that overlaps a row before it, or n: a count, as in rules.rt. Each is searched for.
     fn search_all(&self, n: usize) -> usize
         requires n_in_bounds { n ≤ self.now.count }
         requires by_index { (i : ℕ) → i < n → ranged (partition_row self.now.file.now i) ≡ true }

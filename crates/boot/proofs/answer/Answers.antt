@@ -1,5 +1,5 @@
 use Rattle.boot.specs.Lent.{tables_of}
-use Rattle.boot.specs.Tables.{machine_rows, machine_of, machine_known}
+use Rattle.boot.specs.Tables.{machine_of, machine_known}
 use Rattle.boot.proofs.ChoiceLaws.{le_of_eq}
 use Rattle.boot.proofs.AnswerLaws.{no_machine}
 use Rattle.rows.proofs.IndexLaws.{missing_if}

@@ -1,5 +1,5 @@
 use Rattle.boot.specs.Lent.{tables_of}
-use Rattle.boot.specs.Tables.{machine_rows, machine_of, machine_known, product_number, product_of, product_known}
+use Rattle.boot.specs.Tables.{machine_of, machine_known, product_number, product_of, product_known}
 use Rattle.boot.proofs.ChoiceLaws.{le_of_eq}
 use Rattle.boot.proofs.AnswerLaws.{no_product, sent}
 use Rattle.rows.proofs.IndexLaws.{found_if, missing_if}

@@ -1,6 +1,5 @@
 use Rattle.site.proofs.RuleLaws.{site_header}
 use Rattle.site.specs.Found.{index_of_name}
-use mathlib.Core.Path.{◌∙◌}
 use Rattle.site.proofs.partition_named.Goals as goal
 
 pub of-partitions-requires : goal.of-partitions-requires

@@ -1,5 +1,5 @@
 use Rattle.std.proofs.lemmas.Result.{err_from_is_err_and}
-use Rattle.site.specs.Places.{placed_by, located, At, Faulty}
+use Rattle.site.specs.Places.{placed_by, located, Faulty}
 use Rattle.site.proofs.FaultLaws.{checked_good, checked_is}
 use Rattle.site.proofs.PlaceLaws.{placed_ok, placed_err}
 use mathlib.Core.Path.{sym, ap, ◌∙◌}

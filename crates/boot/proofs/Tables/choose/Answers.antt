@@ -1,5 +1,5 @@
 use Rattle.boot.specs.Lent.{tables_of}
-use Rattle.boot.specs.Tables.{product_number, machine_options, wanted_os, wants_small, os_menu}
+use Rattle.boot.specs.Tables.{product_number, machine_options, wanted_os, wants_small}
 use Rattle.boot.proofs.ChoiceLaws.{chosen_among}
 use mathlib.Core.Path.{◌∙◌}
 use Rattle.boot.proofs.Tables.choose.Goals as goal

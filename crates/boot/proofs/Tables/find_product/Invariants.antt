@@ -1,6 +1,5 @@
-use Rattle.boot.specs.Tables.{is_product, product_rows}
+use Rattle.boot.specs.Tables.{is_product}
 use Rattle.rows.proofs.IndexLaws.{Searching}
-use mathlib.Core.Path.{◌≡◌}
 use Rattle.boot.proofs.Tables.find_product.Given as goal
 
 abbrev pub invariant-loop-i : goal.invariant-loop-i

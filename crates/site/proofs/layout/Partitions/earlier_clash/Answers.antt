@@ -1,11 +1,6 @@
 use Rattle.site.specs.Faults.{fault_row, clashes, earlier_row}
-use Rattle.site.specs.Rules.{named_at}
-use Rattle.site.specs.Layout.{name_at}
 use Rattle.rows.proofs.IndexLaws.{first_none, none_from}
-use Rattle.rows.specs.Words.{first}
-use mathlib.Core.Path.{refl, sym, ap, ◌∙◌}
-use native.Mathlib.Omega.{arith}
-use Prim.Native.Nat.{ℕ}
+use mathlib.Core.Path.{refl, sym}
 use Rattle.site.proofs.layout.Partitions.earlier_clash.Goals as goal
 
 pub find_overlap-requires : goal.find_overlap-requires

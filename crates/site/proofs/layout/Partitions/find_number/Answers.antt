@@ -1,5 +1,4 @@
 use Rattle.rows.proofs.IndexLaws.{search_starts, search_on, search_hit, search_ends}
-use native.Mathlib.Omega.{arith}
 use mathlib.Core.Path.{sym, ◌∙◌}
 use Rattle.site.proofs.layout.Partitions.find_number.Goals as goal
 

@@ -1,6 +1,5 @@
 use Rattle.rows.proofs.IndexLaws.{search_starts, search_on, search_hit, search_ends, fails_at, holds_at}
 use mathlib.Core.Path.{sym, ◌∙◌}
-use native.Mathlib.Omega.{arith}
 use Rattle.site.proofs.layout.Partitions.first_unsound.Goals as goal
 
 pub loop-i-init : goal.loop-i-init

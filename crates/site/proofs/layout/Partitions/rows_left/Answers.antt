@@ -3,9 +3,8 @@ use Rattle.site.specs.Rules.{sound, name_alone, number_alone, apart}
 use Rattle.site.specs.Shortcuts.{left_by_range, left_by_name, left_by_number, left_by_overlap}
 use Rattle.rows.proofs.IndexLaws.{first_most, first_least, at_holds}
 use Rattle.rows.specs.Words.{first, fails}
-use mathlib.Core.Path.{◌≡◌, refl, ap, ◌∙◌}
+use mathlib.Core.Path.{refl, ap, ◌∙◌}
 use native.Mathlib.Omega.{arith}
-use Prim.Native.Nat.{ℕ}
 use Rattle.site.proofs.layout.Partitions.rows_left.Goals as goal
 
 pub first_name_repeated-named-requires : goal.first_name_repeated-named-requires
