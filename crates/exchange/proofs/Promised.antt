@@ -10,6 +10,9 @@ use Rattle.terms.specs.declared.LockString.{LockString}
 use Rattle.site.specs.Rules.{good_site}
 use Rattle.locks.specs.Holding.{has}
 use Rattle.locks.proofs.HoldingLaws.{one_holder}
+use Rattle.std.specs.Prelude.{Result}
+use Rattle.refusals.specs.declared.Refusal.{Refusal}
+use Rattle.site.specs.declared.Refused.{Refused}
 use Rattle.master.specs.declared.Answer.{Answer}
 use Rattle.master.specs.declared.Turned.{Turned}
 use Rattle.master.specs.Answers.{answers, told, status_byte, turn_told}
@@ -60,11 +63,11 @@ by_entries (serve n f s t' w' r a d) = let e = by_entries d in (a.locks ∙ rw (
 by_entries (poll_turn n heard t' w' r a d) = let e = by_entries d in (a.locks ∙ rw (e.0, e.1), a.records ∙ rw (e.0, e.1))
 
 -- and what they answer
-frame_tells : {h : Run} {t w : List ℕ} → Played h t w → (n : ℕ) (f s t' w' : List ℕ) (r : Answer) → Serves n f s t w r t' w' → told r ≡ answer_in h n f s
+frame_tells : {h : Run} {t w : List ℕ} → Played h t w → (n : ℕ) (f s t' w' : List ℕ) (r : Result Answer Refused) → Serves n f s t w r t' w' → told r ≡ answer_in h n f s
 unfolding answer_in effect
 frame_tells d n f s t' w' r a = let e = by_entries d in a.answer ∙ ap₂ (λ (x y : List ℕ). (frame_effect n f s x y).tells) e.0 e.1
 
-turn_tells : {h : Run} {t w : List ℕ} → Played h t w → (n : ℕ) (heard : Bool) (t' w' : List ℕ) (r : Turned) → Polls n heard t w r t' w' → turn_told r ≡ turn_in h n heard
+turn_tells : {h : Run} {t w : List ℕ} → Played h t w → (n : ℕ) (heard : Bool) (t' w' : List ℕ) (r : Result Turned Refusal) → Polls n heard t w r t' w' → turn_told r ≡ turn_in h n heard
 unfolding turn_in effect
 turn_tells d n heard t' w' r a = let e = by_entries d in a.answer ∙ ap₂ (λ (x y : List ℕ). (poll_effect n heard x y).tells) e.0 e.1
 

@@ -17,9 +17,11 @@
 -- station that the master has logged out, for its silence or for a login with its serial, still has its list and may not know it; its
 -- next frame is refused with 2, or taken for another's where its number was given away. Nothing is said of time: every request and
 -- every reply may be lost.
-use Rattle.std.specs.Prelude.{ℕ, ◌≤◌, ◌≡◌, Bool, true, false, List, length}
+use Rattle.std.specs.Prelude.{ℕ, ◌≤◌, ◌≡◌, Bool, true, false, List, Result, length}
+use Rattle.refusals.specs.declared.Refusal.{Refusal}
 use Rattle.terms.specs.declared.LockString.{LockString}
 use Rattle.frames.specs.Reading.{request_in}
+use Rattle.site.specs.declared.Refused.{Refused}
 use Rattle.site.specs.Rules.{good_site}
 use Rattle.who.specs.Logins.{logged_in}
 use Rattle.locks.specs.Holding.{has}
@@ -61,5 +63,5 @@ pub record Promise : Type 0 where
   pub state_good : {k at : ℕ} {h : Run} {st : List ℕ} → Follows k h at st → good_state st ≡ true
   pub playable : (h : Run) → Played h (tables h).locks (tables h).records
   pub played : {h : Run} {t w : List ℕ} → Played h t w → (t ≡ (tables h).locks) × (w ≡ (tables h).records)
-  pub frame_told : {h : Run} {t w : List ℕ} → Played h t w → (n : ℕ) (f s t' w' : List ℕ) (r : Answer) → Serves n f s t w r t' w' → told r ≡ answer_in h n f s
-  pub turn_told_lem : {h : Run} {t w : List ℕ} → Played h t w → (n : ℕ) (heard : Bool) (t' w' : List ℕ) (r : Turned) → Polls n heard t w r t' w' → turn_told r ≡ turn_in h n heard
+  pub frame_told : {h : Run} {t w : List ℕ} → Played h t w → (n : ℕ) (f s t' w' : List ℕ) (r : Result Answer Refused) → Serves n f s t w r t' w' → told r ≡ answer_in h n f s
+  pub turn_told_lem : {h : Run} {t w : List ℕ} → Played h t w → (n : ℕ) (heard : Bool) (t' w' : List ℕ) (r : Result Turned Refusal) → Polls n heard t w r t' w' → turn_told r ≡ turn_in h n heard

@@ -1,6 +1,8 @@
 -- A run of the master from fresh tables: what reached it, one event after the other. Who sent it, and whether an answer came back, is
 -- no part of a run: a request that is lost is no event, and a reply that is lost changes nothing at the master.
-use Rattle.std.specs.Prelude.{ℕ, zero, suc, ◌≡◌, Bool, true, List}
+use Rattle.std.specs.Prelude.{ℕ, zero, suc, ◌≡◌, Bool, true, List, Result}
+use Rattle.refusals.specs.declared.Refusal.{Refusal}
+use Rattle.site.specs.declared.Refused.{Refused}
 use Rattle.who.specs.Logins.{fresh_records}
 use Rattle.locks.specs.Good.{fresh_locks}
 use Rattle.master.specs.declared.Answer.{Answer}
@@ -54,8 +56,8 @@ ends_in h e k = ends (effect e (tables h)) k
 
 -- the run as the entries play it: `fresh`, and then `serve` or `poll_turn` for each event, each on the tables that the one before left
 pub data Played : Run → List ℕ → List ℕ → Type 0 where
-  fresh : (t w t' w' : List ℕ) (r : Answer) → sized t w ≡ true → Freshens t w r t' w' → Played start t' w'
-  serve : {h : Run} {t w : List ℕ} (n : ℕ) (f s t' w' : List ℕ) (r : Answer) → Serves n f s t w r t' w'
+  fresh : (t w t' w' : List ℕ) (r : Result (Unit {0}) Refusal) → sized t w ≡ true → Freshens t w r t' w' → Played start t' w'
+  serve : {h : Run} {t w : List ℕ} (n : ℕ) (f s t' w' : List ℕ) (r : Result Answer Refused) → Serves n f s t w r t' w'
       → Played h t w → Played (h then frame n f s) t' w'
-  poll_turn : {h : Run} {t w : List ℕ} (n : ℕ) (heard : Bool) (t' w' : List ℕ) (r : Turned) → Polls n heard t w r t' w'
+  poll_turn : {h : Run} {t w : List ℕ} (n : ℕ) (heard : Bool) (t' w' : List ℕ) (r : Result Turned Refusal) → Polls n heard t w r t' w'
       → Played h t w → Played (h then turn n heard) t' w'

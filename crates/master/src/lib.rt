@@ -1,6 +1,7 @@
 // The master's entries: fresh tables, the check of the tables, one frame and one poll turn; one frame from the line stands in
 // line.rt. The tables are lent; an answer is an enum by value, and `told` (specs/Answers.antt) says what it tells, or what
-// the refusal tells in its place.
+// the refusal tells in its place. The lock table and the records stay two parameters: the entries are called with them so,
+// in the order that README gives, and a struct would be put together in each to be taken apart in `locks` and `who`.
 #![tactic(auto)]
 
 mod checks;
