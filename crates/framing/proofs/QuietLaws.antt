@@ -20,14 +20,6 @@ use Rattle.framing.proofs.ScanLaws.{scan_quiet, Scanning}
 abbrev pub Quiet : List Bool → ℕ → ℕ → ℕ → ℕ → Type 0
 Quiet b n from at ones = Passes b n from (record { at = at; ones = ones })
 
-pub quiet_starts : (b : List Bool) (n from : ℕ) → from ≤ n → Quiet b n from from 0
-quiet_starts b n from l = record {
-  order = omega arith;
-  inside = l;
-  few = omega arith;
-  rest = λ since. ap (λ (q : List Bool). scan 0 q (slice from n b)) (sym (ap (λ (q : List Bool). since ++ q) (slice_empty from b) ∙ append-nil since));
-}
-
 pub quiet_more : (s : List ℕ) (n from at ones : ℕ) (z : Taken) → n ≤ 8 * length s → Quiet (to_bits s) n from at ones → at % 8 ≡ 0 → at + 8 ≤ n
     → TakenOut ones (bits_of 8 (get_or s (at / 8) 0)) z → z.sixths ≡ 0 → Quiet (to_bits s) n from (at + 8) z.ones
 quiet_more s n from at ones z w q e l o six =

@@ -127,9 +127,6 @@ pub record Scanning (b : List Bool) (n from at ones : ℕ) : Type 0 where
   pub few : ones ≤ 6
   pub rest : scan ones (slice from at b) (slice at n b) ≡ scan 0 [] (slice 8 n b)
 
-pub scan_starts : (b : List Bool) (n : ℕ) → 8 ≤ n → Scanning b n 8 8 0
-scan_starts b n h = record { order = omega arith; inside = h; opened = omega arith; few = omega arith; rest = ap (λ (l : List Bool). scan 0 l (slice 8 n b)) (slice_empty 8 b) }
-
 module _ (b : List Bool) (n from at ones : ℕ) (w : n ≤ length b) (s : Scanning b n from at ones) (l : at < n) where
   -- what is left starts with the bit at hand
   next : (x : Bool) → get_or b at false ≡ x → slice at n b ≡ x ∷ slice (at + 1) n b

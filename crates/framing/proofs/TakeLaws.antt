@@ -84,9 +84,6 @@ module _ (b : List Bool) (to : ℕ) (t : Taker) (few : t.held < 8) where
           let few' : 8 ≤ length (bits_of t.held t.acc ++ []) = rw e at h in
           omega (arith, few', length-append (bits_of t.held t.acc) [], length_bits_of t.held t.acc)
 
-pub goes_none : (b : List Bool) (to : ℕ) (t : Taker) → t.at ≤ to → Goes b to t t
-goes_none b to t r = record { same = refl; inside = r; further = omega arith }
-
 pub goes_both : (b : List Bool) (to : ℕ) (t t' t'' : Taker) → Goes b to t t' → Goes b to t' t'' → Goes b to t t''
 goes_both b to t t' t'' g h = record { same = h.same ∙ g.same; inside = h.inside; further = omega (arith, g.further, h.further) }
 

@@ -6,8 +6,8 @@ use native.Mathlib.Omega.{arith}
 use mathlib.Core.Path.{◌≡◌, refl, sym, ap, ◌∙◌, subst}
 use mathlib.Core.Logic.{⊎_elim}
 use mathlib.Core.Bool.{Bool, true, false, not, ◌&&◌, ◌||◌, and-or_distrib_right, or-true, or-false}
-use lib.Dec.{leb, ltb}
-use borrow.Author.Tests.{lt-ltb, le-ltb, le-leb, lt-leb, not-true, not-false}
+use lib.Dec.{ltb}
+use borrow.Author.Tests.{lt-ltb, le-ltb, not-true, not-false}
 use Rattle.rows.proofs.BoolLaws.{by_test, by_eq, both, and_fails, and_both}
 use Rattle.rows.specs.Words.{all, any, first, fails}
 
@@ -88,11 +88,6 @@ module _ (p : ℕ → Bool) where
 
   pub missing_if : (n : ℕ) → n ≤ first p n → any p n ≡ false
   missing_if n h = sym (first_below n) ∙ le-ltb _ _ h
-
-  pub first_misses : (n : ℕ) → leb n (first p n) ≡ not (any p n)
-  first_misses n = by_test (any p n)
-      (λ y. lt-leb n _ (first_found n y).0 ∙ sym (ap not y))
-      (λ m. le-leb n (first p n) (omega (arith, first_none n m)) ∙ sym (ap not m))
 
 -- two tests beside each other, below n
 module _ (p q : ℕ → Bool) where

@@ -4,10 +4,10 @@ use native.Mathlib.Omega.{arith}
 use native.Mathlib.Nat.{pow-suc, pow-succ', mul_assoc, add-zero, one-mul, div-lt_iff_lt-mul, div-div-eq-div-mul}
 use mathlib.Core.Path.{◌≡◌, refl, sym, ap, ◌∙◌, subst}
 use mathlib.Core.Bool.{true, false}
-use mathlib.Core.List.{List, [], ◌∷◌, ◌++◌}
+use mathlib.Core.List.{List, [], ◌∷◌}
 use lib.Dec.{eqb, ltb, lit<}
-use lib.ListN.{length, take, drop, get_or, length-take, length-drop, get_or-eq_default}
-use lib.Seq.{take-add, drop-drop, get_or-drop, length-take-le, ext_get_or}
+use lib.ListN.{length, take, drop, get_or, length-take, get_or-eq_default}
+use lib.Seq.{get_or-drop, ext_get_or}
 use lib.Pow.{pow_pos}
 use borrow.Author.Tests.{ltb-true, ltb-false, eqb-true, eq-eqb, ne_eqb}
 use Rattle.rows.proofs.BoolLaws.{by_test, contra}
@@ -117,18 +117,6 @@ module _ (a b : List ℕ) (small-a : Bytes a) (small_b : Bytes b) (long : length
       (λ y. byte_in 0 k (omega arith) front (omega arith) (omega (arith, ltb-true k 8 y)))
       (λ n. byte_in (length a - 8) k (omega arith) back (omega (arith, ltb-false k 8 n)) (omega arith))))
       (same_refl b)
-
--- the number in one part and a further one
-low_append : (a b : List ℕ) → low_first (a ++ b) ≡ low_first a + 256 ^ length a * low_first b
-unfolding low_first
-low_append [] b = omega arith
-low_append (x ∷ a) b = rw (low_append a b, pow-succ') (omega (arith, mul_assoc 256 (256 ^ length a) (low_first b)))
-
--- the number in a part is that of its first n bytes and of the m after them
-low_parts : (l : List ℕ) (at n m : ℕ) → at + (n + m) ≤ length l → low_first (part l at (n + m)) ≡ low_first (part l at n) + 256 ^ n * low_first (part l (at + n) m)
-unfolding part
-low_parts l at n m h =
-    rw (take-add n m (drop at l), low_append, drop-drop, length-take-le n (drop at l) (simp length-drop (omega arith)))
 
 -- the two bytes of a part
 pub two_bytes : (l : List ℕ) (at : ℕ) → at + 2 ≤ length l → part l at 2 ≡ get_or l at 0 ∷ get_or l (at + 1) 0 ∷ []

@@ -156,11 +156,6 @@ pub put_last : (l p : List ℕ) (at : ℕ) → length l ≡ at + length p → pu
 unfolding put
 put_last l p at h = rw (drop-drop, drop_of_length-le l {i = at + length p} (omega arith), append-nil p)
 
--- a part put down where the second of two lists begins
-pub put_behind : (a b p : List ℕ) (at : ℕ) → length a ≡ at → put (a ++ b) at p ≡ a ++ over p b
-unfolding put
-put_behind a b p at h = rw (take_at a b at h, drop_at a b at h)
-
 -- a part moved down to `to`, byte by byte: its begin and a turn. What is read lies behind what was written
 module _ (l : List ℕ) (from to : ℕ) where
   pub slide_none : l ≡ put l to (part l from 0)

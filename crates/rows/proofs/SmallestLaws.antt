@@ -99,10 +99,6 @@ SmallestSoFar p m top n i best least =
     (i ≤ n) × (((any p i ≡ false) × (best ≡ n) × (least ≡ top)) ⊎ (Smallest p m i best × (least ≡ m best)))
 
 module _ (p : ℕ → Bool) (m : ℕ → ℕ) (top n : ℕ) (above : (i : ℕ) → i < n → m i < top) where
-  pub so_far_starts : SmallestSoFar p m top n 0 n top
-  unfolding any
-  so_far_starts = (omega arith, inl (refl, refl, refl))
-
   -- a turn: w is the measure at i where p holds there, and top where not
   module _ {i best least : ℕ} (s : SmallestSoFar p m top n i best least) (l : i < n) (w : ℕ) (weighs : w ≡ cond (p i) (m i) top) where
     least_most : least ≤ top
