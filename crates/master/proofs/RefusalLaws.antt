@@ -67,11 +67,6 @@ pub unknown_is : (inside : ℕ → Bool) (n : ℕ) {b : Bool} → b ≡ inside n
 unfolding unknown
 unknown_is inside n e = rw e
 
--- a frame that is not refused with 1 is not empty
-pub not_empty : (f : List ℕ) → (refusal_of f ≡ 1 → ⊥) → 0 < length f
-unfolding refusal_of
-not_empty f ne = by_eq (length f) 0 (λ e. absurd (ne (rw e))) (λ z. omega arith)
-
 -- a frame that reading refuses with none of its four numbers reads well
 pub reads_well : (f : List ℕ) → eqb (refusal_of f) 1 ≡ false → eqb (refusal_of f) 3 ≡ false → eqb (refusal_of f) 4 ≡ false → eqb (refusal_of f) 6 ≡ false → refusal_of f ≡ 0
 unfolding refusal_of

@@ -1,7 +1,7 @@
 -- The cases of asking, sending and taking a reply, one law each: what the tests say, and what is answered and left.
 use Prim.Native.Nat.{ℕ, ◌≤◌, ◌<◌}
 use native.Mathlib.Omega.{arith}
-use mathlib.Core.Path.{◌≡◌, refl, sym, ◌∙◌}
+use mathlib.Core.Path.{◌≡◌, refl, sym}
 use mathlib.Core.Bool.{Bool, true, false, cond, not, ◌&&◌, and-false}
 use mathlib.Core.List.{List, [], ◌++◌}
 use lib.Dec.{eqb, ltb}
@@ -27,13 +27,9 @@ use Rattle.station.proofs.StateLaws.{state_is, wait_long}
 use Rattle.station.proofs.WaitLaws.{no_request}
 use Rattle.station.specs.Replies.{fits, grants, carries_length, adds, reply_refusal, after_reply, Replies}
 
--- an ask: refused, or done
-module _ (st after : List ℕ) where
-  pub ask_refused : {k : ℕ} → k ≡ ask_refusal st → (k ≡ 0 → ⊥) → Asks st after k st
-  ask_refused e ne = record { answer = e; left = rw (ne_eqb (ask_refusal st) 0 (λ z. ne (e ∙ z))) }
-
-  pub ask_done : ask_refusal st ≡ 0 → Asks st after 0 after
-  ask_done e = record { answer = sym e; left = rw e }
+-- an ask that is not refused is done
+pub ask_done : (st after : List ℕ) → ask_refusal st ≡ 0 → Asks st after 0 after
+ask_done st after e = record { answer = sym e; left = rw e }
 
 pub askable : (st : List ℕ) → ask_refusal st ≡ 0 → (good_state st ≡ true) × (waits st ≡ false)
 unfolding ask_refusal

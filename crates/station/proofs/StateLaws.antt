@@ -38,10 +38,6 @@ module _ (l v : List ℕ) (long : length v ≡ 15) where
   unfolding wait_of
   wait_of_lem = drop_at l v (length (l ++ v) - 15) seam
 
--- a list that was lent comes back before the wait
-pub lent_long : (st l : List ℕ) → 15 ≤ length st → length l ≡ length (list_of st) → length (l ++ wait_of st) ≡ length st
-lent_long st l h same = length-append l (wait_of st) ∙ omega (arith, wait_long st h, list_long st)
-
 -- a good state
 pub record GoodState (st : List ℕ) : Type 0 where
   pub sized : length st ≡ state_length
@@ -60,10 +56,6 @@ state_is st h =
 pub is_state : (st : List ℕ) → GoodState st → good_state st ≡ true
 unfolding good_state
 is_state st g = rw (eq-eqb _ _ g.sized, g.list, g.wait)
-
--- it holds a frame awaited
-pub state_fits : (st : List ℕ) → good_state st ≡ true → 15 ≤ length st
-state_fits st h = omega (arith, (state_is st h).sized)
 
 -- its code, and its two parts, stand where the length says
 pub good_code : (st : List ℕ) → good_state st ≡ true → code_in (wait_of st) ≡ get_or st 896 0
