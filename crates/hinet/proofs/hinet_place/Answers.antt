@@ -1,4 +1,4 @@
-use mathlib.Core.Path.{refl, ap, ◌∙◌}
+use mathlib.Core.Path.{ap, ◌∙◌}
 use Rattle.hinet.specs.Packing.{word}
 use Rattle.hinet.specs.Entries.{located_told, place_word}
 use Rattle.terms.specs.declared.Place.{Place}

@@ -1,4 +1,3 @@
-use Prim.Native.Nat.{ℕ}
 use Rattle.hinet.proofs.FrameLaws.{written_short}
 use Rattle.frames.proofs.RoundTrips.{Sized}
 use native.Mathlib.Omega.{arith}

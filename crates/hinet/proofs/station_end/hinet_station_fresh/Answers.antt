@@ -1,4 +1,3 @@
-use mathlib.Core.Path.{◌∙◌}
 use Rattle.hinet.proofs.StationLaws.{stepped}
 use Rattle.hinet.proofs.station_end.hinet_station_fresh.Goals as goal
 
