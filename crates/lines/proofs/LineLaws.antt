@@ -10,6 +10,7 @@ use Rattle.lines.specs.Line.{decimal, hex_byte, answer_text, column, columns, li
 -- what is said of texts one behind another
 pub ruleset appending = (append_assoc, length-append)
 
+-- a number's digits, and how many they are at most
 pub ruleset decimals = (decimal_is, decimal_long, length-append)
 
 pub answer_long : (t : Told) → length (answer_text t) ≤ 41
@@ -45,4 +46,5 @@ pub line_long : (index number : ℕ) (t : Told) → length (line_text index numb
 unfolding line_text
 line_long index number t = simp length-append (omega (arith, columns_long index number (refusal_number t), answer_long t))
 
+-- the parts of a line, which has room for them
 pub ruleset lengths = (append_assoc, length-append, columns_long, answer_long, line_long)
