@@ -2,12 +2,12 @@
 -- say of every request and every slice.
 use Prim.Native.Nat.{ℕ, ◌<◌, ◌≤◌}
 use native.Mathlib.Omega.{arith}
-use mathlib.Core.Path.{◌≡◌, refl, sym, ap, ap₂, subst, ◌∙◌}
+use mathlib.Core.Path.{◌≡◌, refl, sym, ap, subst, ◌∙◌}
 use mathlib.Core.Bool.{not, ◌&&◌}
 use mathlib.Core.List.{List}
 use lib.Dec.{eqb, ltb}
 use lib.ListN.{length, take, drop, get_or}
-use lib.Seq.{take_all, take_at}
+use lib.Seq.{take_at}
 use borrow.Author.Tests.{ne_eqb, lt-ltb, le-ltb, ltb-true, ltb-false}
 use Rattle.rows.proofs.BoolLaws.{by_test, by_eq, either}
 pub use Rattle.rows.proofs.NumberLaws.{Bytes}
@@ -15,7 +15,7 @@ use Rattle.std.specs.Prelude.{Result}
 use Rattle.refusals.specs.declared.Refusal.{Refusal}
 use Rattle.refusals.specs.Outcomes.{GivesUnless}
 use Rattle.rows.specs.Outcomes.{Gives}
-use Rattle.rows.specs.Rows.{part, over}
+use Rattle.rows.specs.Rows.{over}
 use Rattle.terms.specs.declared.Address.{Address}
 use Rattle.terms.specs.declared.LockString.{LockString}
 use Rattle.frames.specs.declared.Command.{Command}
@@ -33,15 +33,10 @@ use Rattle.master.proofs.LineLaws.{frame_short}
 use Rattle.master.specs.Answers.{answers, frame_made, request_of}
 use Rattle.hinet.specs.Packing.{word, refusal_in, told_in}
 use Rattle.hinet.specs.Entries.{address_of}
-use Rattle.hinet.specs.FrameEntries.{byte_field, fields_for, disk_of, named_of, login_of, string_of, frame_told, Composes, read_told, read_word}
+use Rattle.hinet.specs.FrameEntries.{fields_for, disk_of, named_of, login_of, string_of, frame_told, Composes, read_told, read_word}
 use Rattle.hinet.specs.Tellings.{either_told}
 use Rattle.hinet.proofs.PackLaws.{choice_tells, refused_choice}
 use Rattle.hinet.proofs.TellingLaws.{refusal_tells, gives_tells}
-
--- all of a list is its part from 0 on
-pub part_all : (l : List ℕ) (n : ℕ) → length l ≡ n → part l 0 n ≡ l
-unfolding part
-part_all l n e = take_all n l (omega arith)
 
 pub written_short : (q : Request) → Sized q → (n : ℕ) → (written_of q n).length < 256
 unfolding written_of
@@ -52,10 +47,6 @@ written_short q sized n = by_test (ltb n (length (frame_of q)))
 -- an entry writes the request that its contract names
 pub composed : {p q : Request} (b : List ℕ) {r : ℕ} {b' : List ℕ} → p ≡ q → Composes p b r b' → Composes q b r b'
 composed b {r = r} {b' = b'} e done = subst (λ (x : Request). Composes x b r b') e done
-
-pub disk_composed : (c : ℕ → Address → Command) (src v p t x : ℕ) (b : List ℕ) {q : Request} {s : ℕ} {a : Address} {r : ℕ} {b' : List ℕ} → q ≡ plain (c s a) → s ≡ byte_field src → a ≡ fields_for v p t x → Composes q b r b' → Composes (disk_of c src v p t x) b r b'
-unfolding disk_of
-disk_composed c src v p t x b e i j done = composed b (e ∙ ap₂ (λ (s : ℕ) (a : Address). plain (c s a)) i j) done
 
 -- what a reading refuses
 reading_refuses : (f : List ℕ) → (reading_of f).refusal ≡ refusal_of f
