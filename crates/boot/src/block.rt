@@ -21,10 +21,7 @@ fn file_at(directory: &[u8], list: &[u8], k: usize) -> Option<usize>
     requires { k < length list.now / 8 }
     ensures { Finds (files directory.now) (file_of directory.now (name_of list.now k)) result }
 {
-    directory::find(
-        directory,
-        rows::part(list, directory::NAME * k, directory::NAME),
-    )
+    directory::find(directory, rows::array_in(list, directory::NAME * k))
 }
 
 // Every name to load is in the directory.

@@ -42,11 +42,11 @@ fn product_rows(products: &[u8]) -> usize
 }
 
 // The name that begins at `at` in row p.
-fn product_name(products: &[u8], p: usize, at: usize) -> &[u8]
+fn product_name(products: &[u8], p: usize, at: usize) -> &[u8; 8]
     requires { (p < product_rows products.now) × (at + 8 ≤ 25) }
-    ensures { (result.now ≡ part products.now (25 * p + at) 8) × (length result.now ≡ 8) }
+    ensures { result.now ≡ part products.now (25 * p + at) 8 }
 {
-    rows::part(products, PRODUCT * p + at, 8)
+    rows::array_in(products, PRODUCT * p + at)
 }
 
 // A product number without the bit that tells the console.
@@ -62,7 +62,7 @@ fn is_user(users: &[u8], i: usize, pattern: Pattern, password: &[u8]) -> bool
     ensures { result ≡ (matches (part users.now (16 * i) 8) pattern && same (part users.now (16 * i + 8) 6) password.now) }
 {
     let at = USER * i;
-    if !names::matches(rows::part(users, at, 8), pattern) {
+    if !names::matches(rows::array_in(users, at), pattern) {
         return false;
     }
     rows::is_same(rows::part(users, at + 8, 6), password)
@@ -127,18 +127,18 @@ impl<'a> Tables<'a> {
 
     // The name of Login Please, at the machine whose product is row p.
     #[tactic(auto, unfolding(crate::specs::Tables::login_please))]
-    pub fn login_please(&self, p: usize) -> &'a [u8]
+    pub fn login_please(&self, p: usize) -> &'a [u8; 8]
         requires { p < product_rows self.now.products.now }
-        ensures { (result.now ≡ please_of self.now.products.now p) × (length result.now ≡ 8) }
+        ensures { result.now ≡ please_of self.now.products.now p }
     {
         product_name(self.products, p, 9)
     }
 
     // The name of OS Menu.
     #[tactic(auto, unfolding(crate::specs::Tables::os_menu))]
-    fn os_menu(&self, p: usize) -> &'a [u8]
+    fn os_menu(&self, p: usize) -> &'a [u8; 8]
         requires { p < product_rows self.now.products.now }
-        ensures { (result.now ≡ menu_of self.now.products.now p) × (length result.now ≡ 8) }
+        ensures { result.now ≡ menu_of self.now.products.now p }
     {
         product_name(self.products, p, 17)
     }

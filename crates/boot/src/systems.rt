@@ -41,8 +41,7 @@ fn os_fits(number: u8, wanted: u8) -> bool
 }
 
 // The bit of a product number in a map of 128 bits.
-fn in_map(map: &[u8], product: u8) -> bool
-    requires { length map.now ≡ 16 }
+fn in_map(map: &[u8; 16], product: u8) -> bool
     ensures { result ≡ bit_at (low_first map.now) (seven_bits product) }
 {
     let bit = usize::from(lookups::seven_bits(product));
@@ -50,13 +49,13 @@ fn in_map(map: &[u8], product: u8) -> bool
     (byte >> (bit % 8)) & 1 == 1
 }
 
-// The n bytes of row i that begin at `at`.
+// The N bytes of row i that begin at `at`.
 #[tactic(auto, unfolding(crate::specs::Systems::system_rows))]
-fn field(table: &[u8], i: usize, at: usize, n: usize) -> &[u8]
-    requires { (i < system_rows table.now) × (at + n ≤ 96) }
-    ensures { (result.now ≡ part table.now (96 * i + at) n) × (length result.now ≡ n) }
+fn field<const N: usize>(table: &[u8], i: usize, at: usize) -> &[u8; N]
+    requires { (i < system_rows table.now) × (at + N ≤ 96) }
+    ensures { result.now ≡ part table.now (96 * i + at) N }
 {
-    rows::part(table, lookups::SYSTEM * i + at, n)
+    rows::array_in(table, lookups::SYSTEM * i + at)
 }
 
 // The load list of system i: its names before the first null name.
@@ -64,7 +63,7 @@ fn load_list(table: &[u8], i: usize) -> &[u8]
     requires { i < system_rows table.now }
     ensures { (result.now ≡ load_list table.now i) × (length result.now ≤ 64) }
 {
-    let names = field(table, i, 23, 64);
+    let names: &[u8; 64] = field(table, i, 23);
     let n = rows::find(names, directory::NAME, 8, &[0u8; 8]).unwrap_or(8);
     rows::part(names, 0, directory::NAME * n)
 }
@@ -107,7 +106,7 @@ impl<'a> Systems<'a> {
         if !os_fits(self.table[lookups::SYSTEM * i], self.wanted) {
             return false;
         }
-        in_map(field(self.table, i, 1, 16), self.product)
+        in_map(field(self.table, i, 1), self.product)
     }
 
     // The file that the first name of system i is.
@@ -115,7 +114,7 @@ impl<'a> Systems<'a> {
         requires { i < system_rows self.now.table.now }
         ensures { Finds (files self.now.directory.now) (file_of self.now.directory.now (first_name self.now.table.now i)) result }
     {
-        directory::find(self.directory, field(self.table, i, 23, directory::NAME))
+        directory::find(self.directory, field(self.table, i, 23))
     }
 
     // The size of system i, the length of the file that its first name is, where it fits.
@@ -140,7 +139,7 @@ impl<'a> Systems<'a> {
         if self.size_of(i).is_none() {
             return false;
         }
-        rows::is_same(field(self.table, i, 17, 6), options)
+        rows::is_same(field::<6>(self.table, i, 17), options)
     }
 
     // The first system that fits exactly.
@@ -174,8 +173,7 @@ impl<'a> Systems<'a> {
     }
 
     // The smallest system; OS Menu for none.
-    fn choose_smallest(&self, menu: &'a [u8]) -> Choice<'a>
-        requires { length menu.now ≤ 64 }
+    fn choose_smallest(&self, menu: &'a [u8; 8]) -> Choice<'a>
         ensures { (names_of result ≡ smallest_choice self.now.table.now self.now.directory.now self.now.wanted self.now.product menu.now) × (length result.names.now ≤ 64) }
     {
         match self.find_smallest() {
@@ -191,8 +189,7 @@ impl<'a> Systems<'a> {
     }
 
     // The system that a user gets, by its load list: the exact one where he has full service, or else the smallest.
-    pub(crate) fn choose(&self, options: &[u8], small: bool, menu: &'a [u8]) -> Choice<'a>
-        requires { length menu.now ≤ 64 }
+    pub(crate) fn choose(&self, options: &[u8], small: bool, menu: &'a [u8; 8]) -> Choice<'a>
         ensures { (names_of result ≡ choice_among self.now.table.now self.now.directory.now self.now.wanted self.now.product options.now small menu.now) × (length result.names.now ≤ 64) }
     {
         if small {

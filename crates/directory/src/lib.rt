@@ -23,8 +23,7 @@ pub fn count(directory: &[u8]) -> usize
 
 // The first file with this name. A null name is not looked for.
 #[tactic(auto, using(crate::proofs::FileLaws::null_missing, crate::proofs::FileLaws::named_begins), unfolding(crate::specs::Directory::files, crate::specs::Directory::null_name))]
-pub fn find(directory: &[u8], name: &[u8]) -> Option<usize>
-    requires { length name.now ≡ 8 }
+pub fn find(directory: &[u8], name: &[u8; NAME]) -> Option<usize>
     ensures { Finds (files directory.now) (file_of directory.now name.now) result }
 {
     if rows::is_same(name, &[0u8; NAME]) {
@@ -35,8 +34,7 @@ pub fn find(directory: &[u8], name: &[u8]) -> Option<usize>
 
 // There is a file with this name.
 #[tactic(auto, using(rows::proofs::OutcomeLaws::finds_some), unfolding(crate::specs::Directory::file_of, crate::specs::Directory::in_directory))]
-pub fn is_there(directory: &[u8], name: &[u8]) -> bool
-    requires { length name.now ≡ 8 }
+pub fn is_there(directory: &[u8], name: &[u8; NAME]) -> bool
     ensures { result ≡ in_directory directory.now name.now }
 {
     find(directory, name).is_some()

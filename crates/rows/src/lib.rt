@@ -47,14 +47,20 @@ pub fn fill(s: &mut [u8], n: usize, r: &[u8])
     }
 }
 
+// The N bytes of s that begin at `at`, where they stand.
+pub fn array_in<const N: usize>(s: &[u8], at: usize) -> &[u8; N]
+    requires { at + N ≤ length s.now }
+    ensures { result.now ≡ part_of s.now at N }
+{
+    part(s, at, N).first_chunk::<N>().unwrap()
+}
+
 // The N bytes of s that begin at `at`, by value.
 pub fn array_at<const N: usize>(s: &[u8], at: usize) -> [u8; N]
     requires { at + N ≤ length s.now }
     ensures { result ≡ part_of s.now at N }
 {
-    let mut r = [0u8; N];
-    r.copy_from_slice(part(s, at, N));
-    r
+    *array_in(s, at)
 }
 
 // A number that stands in so many bytes, low byte first.

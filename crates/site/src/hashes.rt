@@ -1,13 +1,12 @@
 // The hashes by which the checks tell most rows apart: of a name, and of volume and number.
-ghost use Rattle.std.specs.Prelude.{◌≡◌, ◌<◌, length};
+ghost use Rattle.std.specs.Prelude.{◌≡◌, ◌<◌};
 ghost use Rattle.site.specs.Shortcuts.{name_hash, number_hash};
 
 use crate::layout::{PARTITION, Partitions};
 use terms::names;
 
 // The hash of a name. Equal names have equal hashes.
-pub fn name_hash(name: &[u8]) -> usize
-    requires { length name.now ≡ 8 }
+pub fn name_hash(name: &[u8; 8]) -> usize
     ensures { (result ≡ name_hash name.now) × (result < 1024) }
 {
     let solid = names::solid_of(name);

@@ -79,11 +79,11 @@ impl<'a> Rows<'a> {
     }
 
     // The name of row i.
-    pub fn name(&self, i: usize) -> &'a [u8]
+    pub fn name(&self, i: usize) -> &'a [u8; 8]
         requires { i < self.now.count }
-        ensures { (result.now ≡ name_at self.now.file.now self.now.from self.now.width i) × (length result.now ≡ 8) }
+        ensures { result.now ≡ name_at self.now.file.now self.now.from self.now.width i }
     {
-        rows::part(self.file, self.from + self.width * i, 8)
+        rows::array_in(self.file, self.from + self.width * i)
     }
 
     // Row i has this password.

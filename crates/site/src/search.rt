@@ -15,8 +15,8 @@ use terms::{Partition, Volume, names};
 
 impl<'a> Rows<'a> {
     // The first of n rows with this name. The padding of the name is looked for once, and each row is one comparison.
-    pub fn find_name(&self, n: usize, name: &[u8]) -> Option<usize>
-        requires { (n ≤ self.now.count) × (length name.now ≡ 8) }
+    pub fn find_name(&self, n: usize, name: &[u8; 8]) -> Option<usize>
+        requires { n ≤ self.now.count }
         ensures { Finds n (first (named_at self.now.file.now self.now.from self.now.width name.now) n) result }
     {
         let pattern = names::pattern_of(name);

@@ -1,5 +1,5 @@
 // Names as numbers: what eight bytes are compared by where padding at the end does not count.
-ghost use Rattle.std.specs.Prelude.{◌≡◌, length};
+ghost use Rattle.std.specs.Prelude.{◌≡◌};
 ghost use Rattle.terms.specs.Shortcuts.{name_solid, pattern_of, matches as is_match};
 
 use rows::LowFirst;
@@ -9,8 +9,7 @@ const SOLID: u64 = 0xDFDF_DFDF_DFDF_DFDF;
 
 // What is solid of a name, by which names are told apart at a glance. Of equal names it is equal.
 #[tactic(auto, using(crate::proofs::PatternLaws::solid_is))]
-pub fn solid_of(name: &[u8]) -> u64
-    requires { length name.now ≡ 8 }
+pub fn solid_of(name: &[u8; 8]) -> u64
     ensures { result ≡ name_solid name.now }
 {
     u64::low_first_at(name, 0) & SOLID
@@ -26,8 +25,7 @@ pub struct Pattern {
 // The pattern of a name. The zeros and spaces at its end are the highest bytes of its number: those above the highest bit that
 // is solid.
 #[tactic(auto, using(crate::proofs::PatternLaws::padding_small))]
-pub fn pattern_of(name: &[u8]) -> Pattern
-    requires { length name.now ≡ 8 }
+pub fn pattern_of(name: &[u8; 8]) -> Pattern
     ensures { result ≡ pattern_of name.now }
 {
     let all = u64::low_first_at(name, 0);
@@ -48,8 +46,7 @@ pub fn pattern_of(name: &[u8]) -> Pattern
 
 // A name has this pattern.
 #[tactic(auto, using(crate::proofs::PatternLaws::match_is))]
-pub fn matches(name: &[u8], pattern: Pattern) -> bool
-    requires { length name.now ≡ 8 }
+pub fn matches(name: &[u8; 8], pattern: Pattern) -> bool
     ensures { result ≡ is_match name.now pattern }
 {
     u64::low_first_at(name, 0) & pattern.mask == pattern.word

@@ -16,9 +16,9 @@ returns-in-Some c =
     to_user (tables_of c.args.tables.now) c.args.m c.args.p _ _ _ _ c.in-Some.ensures c.configuration-own.ensures c.choose-choice.ensures.0 c.send.ensures
 
 pub send-requires-in-None : goal.send-requires-in-None
-send-requires-in-None c = (omega (arith, c.login_please.ensures.1), refl, c.requires.2)
+send-requires-in-None c = (omega arith, refl, c.requires.2)
 
 pub returns-in-None : goal.returns-in-None
 unfolding iobyte no_configuration
 returns-in-None c =
-    to_nobody (tables_of c.args.tables.now) c.args.m c.args.p _ _ _ _ c.in-None.ensures c.login_please.ensures.0 c.send-in-None.ensures
+    to_nobody (tables_of c.args.tables.now) c.args.m c.args.p _ _ _ _ c.in-None.ensures c.login_please.ensures c.send-in-None.ensures

@@ -8,4 +8,4 @@ pub returns : goal.returns
 unfolding product_number machine_options wanted_os wants_small
 returns c =
     let n = c.new-systems.ensures in
-    (rw (n.0, n.1, n.2, n.3, c.part-options.ensures, c.os_menu.ensures.0) at c.choose.ensures.0 ∙ chosen_among (tables_of c.args.self.now) c.args.m c.args.p c.args.u, c.choose.ensures.1)
+    (rw (n.0, n.1, n.2, n.3, c.part-options.ensures, c.os_menu.ensures) at c.choose.ensures.0 ∙ chosen_among (tables_of c.args.self.now) c.args.m c.args.p c.args.u, c.choose.ensures.1)

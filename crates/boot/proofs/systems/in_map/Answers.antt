@@ -9,7 +9,7 @@ use Prim.Native.Nat.{ℕ, ◌/◌, ◌%◌, ◌^◌}
 use Rattle.boot.proofs.systems.in_map.Goals as goal
 
 pub bounds-map-bit : goal.bounds-map-bit
-bounds-map-bit c = omega (arith, c.from-bit.ensures, c.seven_bits.ensures.1, c.requires)
+bounds-map-bit c = omega (arith, c.from-bit.ensures, c.seven_bits.ensures.1, c.told-map)
 
 pub returns : goal.returns
 unfolding bit_at
@@ -17,5 +17,5 @@ returns c =
     let bit = c.from-bit in
     let byte = get_or c.args.map.now (bit.result / 8) 0 in
     ap (λ (y : ℕ). eqb y 1) (and_mask (byte / 2 ^ (bit.result % 8)) 1)
-    ∙ sym (bit_in_byte c.args.map.now (λ i. (c.type_inv.map i).fits) bit.result)
+    ∙ sym (bit_in_byte c.args.map.now c.fits-map bit.result)
     ∙ ap (bit_at _) (bit.ensures ∙ c.seven_bits.ensures.0)

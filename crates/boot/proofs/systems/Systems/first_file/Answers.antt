@@ -3,4 +3,4 @@ use Rattle.boot.proofs.systems.Systems.first_file.Goals as goal
 
 pub returns : goal.returns
 unfolding first_name
-returns c = rw c.field.ensures.0 at c.find.ensures
+returns c = rw c.field.ensures at c.find.ensures

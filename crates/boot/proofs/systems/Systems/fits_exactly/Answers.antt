@@ -10,4 +10,4 @@ returns-then-is_none c = rw (unfit _ _ c.size_of.result c.is_none.result c.size_
 pub returns : goal.returns
 unfolding fits_exactly system_options
 returns c =
-    rw (fit_there _ _ c.size_of.result c.is_none.result c.size_of.ensures c.is_none.ensures c.if-is_none.false, sym c.field.ensures.0) c.is_same.ensures.answer
+    rw (fit_there _ _ c.size_of.result c.is_none.result c.size_of.ensures c.is_none.ensures c.if-is_none.false, sym c.field.ensures) c.is_same.ensures.answer

@@ -8,4 +8,4 @@ returns-then-not-os_fits c = rw (sym c.os_fits.ensures ∙ c.if-not-os_fits.true
 
 pub returns : goal.returns
 unfolding suits product_fits
-returns c = rw (sym c.os_fits.ensures ∙ c.if-not-os_fits.false, sym c.field.ensures.0) c.in_map.ensures
+returns c = rw (sym c.os_fits.ensures ∙ c.if-not-os_fits.false, sym c.field.ensures) c.in_map.ensures

@@ -13,13 +13,13 @@ pub returns-then-matches : goal.returns-then-matches
 returns-then-matches c =
     let below : c.loop-i.i < c.args.self.now.count = omega arith in
     let inside = row_end c.args.self.now.width below in
-    (search_hit _ _ c.loop-i.invariant c.loop-i-test.true (named_match _ _ _ _ _ c.args.self.now.bytes (λ i. (c.type_inv.name i).fits) c.requires.1 (omega (arith, inside)) c.pattern_of-pattern.ensures c.name.ensures.0 c.matches.ensures ∙ c.if-matches.true), c.loop-i-test.true)
+    (search_hit _ _ c.loop-i.invariant c.loop-i-test.true (named_match _ _ _ _ _ c.args.self.now.bytes c.fits-name c.told-name (omega (arith, inside)) c.pattern_of-pattern.ensures c.name.ensures c.matches.ensures ∙ c.if-matches.true), c.loop-i-test.true)
 
 pub loop-i-preserved : goal.loop-i-preserved
 loop-i-preserved c =
     let below : c.loop-i.i < c.args.self.now.count = omega arith in
     let inside = row_end c.args.self.now.width below in
-    search_on _ _ c.loop-i.invariant c.loop-i-test.true (named_match _ _ _ _ _ c.args.self.now.bytes (λ i. (c.type_inv.name i).fits) c.requires.1 (omega (arith, inside)) c.pattern_of-pattern.ensures c.name.ensures.0 c.matches.ensures ∙ c.if-matches.false)
+    search_on _ _ c.loop-i.invariant c.loop-i-test.true (named_match _ _ _ _ _ c.args.self.now.bytes c.fits-name c.told-name (omega (arith, inside)) c.pattern_of-pattern.ensures c.name.ensures c.matches.ensures ∙ c.if-matches.false)
 
 pub returns : goal.returns
 returns c = search_ends _ _ c.loop-i.invariant c.loop-i-test.false

@@ -23,7 +23,7 @@ name_alone-requires c =
     let s = c.args.self.now in
     let map = c.loop-i.map in
     let below : c.loop-i.i < s.count = omega arith in
-    let here = c.name_hash.ensures.0 ∙ ap name_hash c.name.ensures.0 in
+    let here = c.name_hash.ensures.0 ∙ ap name_hash c.name.ensures in
     record {
       i_in_bounds = omega arith;
       i_value = λ new. unseen_alone 32 s.file.now s.from s.width map c.loop-i.i s.bytes (omega (arith, row_end s.width below)) (omega arith) c.loop-i.invariant.1 (ap (marked map) (sym here) ∙ sym c.mark-seen.ensures.0 ∙ new);
@@ -36,7 +36,7 @@ returns-then-not-name_alone c =
 pub loop-i-preserved : goal.loop-i-preserved
 loop-i-preserved c = (
   search_on _ _ c.loop-i.invariant.0 c.loop-i-test.true (holds_at _ (sym c.name_alone.ensures ∙ c.if-not-name_alone.false)),
-  mark_adds _ _ _ c.loop-i.invariant.1 (c.name_hash.ensures.0 ∙ ap name_hash c.name.ensures.0) (omega (arith, c.name_hash.ensures.1)) c.mark-seen.ensures.1,
+  mark_adds _ _ _ c.loop-i.invariant.1 (c.name_hash.ensures.0 ∙ ap name_hash c.name.ensures) (omega (arith, c.name_hash.ensures.1)) c.mark-seen.ensures.1,
 )
 
 pub returns : goal.returns
