@@ -64,7 +64,7 @@ fn address_of(frame: &[u8]) -> Address
     }
 }
 
-// Name and password.
+// Name and password. This and `with_string` stay two: each fills other fields of the request, and what they share is `plain`.
 #[tactic(auto, unfolding(crate::specs::Reading::named_in, crate::specs::Requests::plain))]
 fn named(command: Command, frame: &[u8]) -> Request
     requires { 15 ≤ length frame.now }

@@ -14,6 +14,8 @@ use borrow.Author.Tests.{eqb-true, eqb-false, leb-true, leb-false, ltb-true, ltb
 use Rattle.rows.proofs.BoolLaws.{by_test}
 use Rattle.rows.proofs.NumberLaws.{Bytes}
 use Rattle.framing.specs.Bits.{odd, bits_of, to_bits, bit, value, bytes_for, packed, pack}
+use Rattle.framing.specs.Check.{check_bytes}
+use Rattle.framing.specs.Frame.{content}
 
 -- ---- bits of a number
 pub length_bits_of : (n v : ℕ) → length (bits_of n v) ≡ n
@@ -151,9 +153,9 @@ bits_rest s i l =
     ∙ ap (λ (q : List ℕ). to_bits (take i s) ++ to_bits q) (drop-cons s i 0 l ∙ ap (λ (k : ℕ). get_or s i 0 ∷ drop k s) (sym (add-one i)))
 
 -- a byte, bytes, and more bytes
-pub content_bits : (user : ℕ) (d c : List ℕ) → to_bits ((user ∷ d) ++ c) ≡ bits_of 8 user ++ (to_bits d ++ to_bits c)
-unfolding to_bits
-content_bits user d c = ap (λ (l : List Bool). bits_of 8 user ++ l) (to_bits_append d c)
+pub content_bits : (user : ℕ) (d : List ℕ) → to_bits (content user d) ≡ bits_of 8 user ++ (to_bits d ++ to_bits (check_bytes (user ∷ d)))
+unfolding to_bits content
+content_bits user d = ap (λ (l : List Bool). bits_of 8 user ++ l) (to_bits_append d (check_bytes (user ∷ d)))
 
 -- the bits from byte i on
 pub drop_to_bits : (i : ℕ) (s : List ℕ) → drop (8 * i) (to_bits s) ≡ to_bits (drop i s)

@@ -1,5 +1,5 @@
 -- One law for each thing that stands on the line: its refusals in their order, and the content.
-use Prim.Native.Nat.{ℕ, ◌+◌, ◌-◌, ◌*◌, ◌/◌, ◌%◌, ◌<◌, ◌≤◌}
+use Prim.Native.Nat.{ℕ, ◌-◌, ◌*◌, ◌/◌, ◌%◌, ◌<◌, ◌≤◌}
 use native.Mathlib.Omega.{arith}
 use mathlib.Core.Path.{◌≡◌, sym, ap, ◌∙◌}
 use mathlib.Core.Bool.{Bool, true, false}
@@ -13,9 +13,8 @@ use Rattle.refusals.specs.declared.Refusal.{Refusal}
 use Rattle.refusals.specs.declared.Refusal.TheVariants.{NoFlag, NoWholeBytes, TooFewBytes, DataTooLong, WrongCheck}
 use Rattle.refusals.specs.Refusals.{number}
 use Rattle.framing.specs.Bits.{to_bits, bytes_for, packed, pack}
-use Rattle.framing.specs.Zeros.{without_zeros}
-use Rattle.framing.specs.Reading.{stopped, scan, opens, scanned, checks, content_refusal, scan_refusal, line_refusal, scan_content, content_in}
-use Rattle.framing.specs.Inner.{Sums, Measures}
+use Rattle.framing.specs.Reading.{stopped, scan, opens, scanned, checks, content_refusal, scan_refusal, line_refusal}
+use Rattle.framing.specs.Inner.{between, plain, Sums, Weighs, Measures}
 use Rattle.framing.specs.declared.take.Summed.{Summed}
 use Rattle.framing.specs.declared.runs.Span.{Span}
 use Rattle.framing.proofs.BitLaws.{length_packed, bytes_packed}
@@ -35,15 +34,14 @@ module _ (s : List ℕ) (n : ℕ) where
   unfolding line_refusal
   measured_unstopped o r e = ap scan_refusal (measured_open o) ∙ e
 
--- ---- the bits between the flags, and their sum
-module _ (s : List ℕ) (n : ℕ) (span : Span) (r : Summed) (e : scanned s n ≡ stopped (slice span.from span.to (to_bits s)))
-    (m : Sums (without_zeros 0 (slice span.from span.to (to_bits s))) r) where
-  abbrev c : List Bool
-  c = without_zeros 0 (slice span.from span.to (to_bits s))
-
-  refusal_is : line_refusal s n ≡ content_refusal c
+  pub measured_stopped : (span : Span) → scanned s n ≡ stopped (between span) → (r : Refusal) → content_refusal (plain span) ≡ number r → Measures s n (Err r)
   unfolding line_refusal scan_refusal
-  refusal_is = rw e
+  measured_stopped span e r m = rw e m
+
+-- ---- the bits between the flags, and their sum
+module _ (span : Span) (r : Summed) (m : Sums (plain span) r) where
+  abbrev c : List Bool
+  c = plain span
 
   left_is : length c % 8 ≡ r.left
   left_is = sym m.left
@@ -51,19 +49,19 @@ module _ (s : List ℕ) (n : ℕ) (span : Span) (r : Summed) (e : scanned s n �
   bytes_is : length c / 8 ≡ r.bytes
   bytes_is = sym m.bytes
 
-  pub measured_20 : (r.left ≡ 0 → ⊥) → Measures s n (Err NoWholeBytes)
+  pub weighed_20 : (r.left ≡ 0 → ⊥) → Weighs span (Err NoWholeBytes)
   unfolding content_refusal
-  measured_20 h = refusal_is ∙ rw (left_is, ne_eqb r.left 0 h)
+  weighed_20 h = rw (left_is, ne_eqb r.left 0 h)
 
   module _ (z : r.left ≡ 0) where
-    pub measured_21 : r.bytes < 4 → Measures s n (Err TooFewBytes)
+    pub weighed_21 : r.bytes < 4 → Weighs span (Err TooFewBytes)
     unfolding content_refusal
-    measured_21 h = refusal_is ∙ rw (left_is, eq-eqb r.left 0 z, bytes_is, lt-ltb r.bytes 4 h)
+    weighed_21 h = rw (left_is, eq-eqb r.left 0 z, bytes_is, lt-ltb r.bytes 4 h)
 
     module _ (four : 4 ≤ r.bytes) where
-      pub measured_17 : 1027 < r.bytes → Measures s n (Err DataTooLong)
+      pub weighed_17 : 1027 < r.bytes → Weighs span (Err DataTooLong)
       unfolding content_refusal
-      measured_17 h = refusal_is ∙ rw (left_is, eq-eqb r.left 0 z, bytes_is, le-ltb r.bytes 4 four, lt-ltb 1027 r.bytes h)
+      weighed_17 h = rw (left_is, eq-eqb r.left 0 z, bytes_is, le-ltb r.bytes 4 four, lt-ltb 1027 r.bytes h)
 
       module _ (most : r.bytes ≤ 1027) where
         whole : length c ≡ 8 * r.bytes
@@ -79,21 +77,16 @@ module _ (s : List ℕ) (n : ℕ) (span : Span) (r : Summed) (e : scanned s n �
             ∙ good_is (packed r.bytes c) (bytes_packed r.bytes c) (omega (arith, length_packed r.bytes c))
             ∙ ap checks (sym pack_is)
 
-        pub measured_22 : (r.register ≡ 0xF0B8 → ⊥) → Measures s n (Err WrongCheck)
+        pub weighed_22 : (r.register ≡ 0xF0B8 → ⊥) → Weighs span (Err WrongCheck)
         unfolding content_refusal
-        measured_22 h =
-            refusal_is ∙ rw (left_is, eq-eqb r.left 0 z, bytes_is, le-ltb r.bytes 4 four, le-ltb 1027 r.bytes most, sym good, ne_eqb r.register 0xF0B8 h)
+        weighed_22 h =
+            rw (left_is, eq-eqb r.left 0 z, bytes_is, le-ltb r.bytes 4 four, le-ltb 1027 r.bytes most, sym good, ne_eqb r.register 0xF0B8 h)
 
-        pub measured_content : r.register ≡ 0xF0B8 → span.to ≤ 8 * length s → Measures s n (Ok (record { span = span; length = r.bytes - 3 }))
-        unfolding content_refusal content_in scan_content
-        measured_content h i = record {
-          good = refusal_is ∙ rw (left_is, eq-eqb r.left 0 z, bytes_is, le-ltb r.bytes 4 four, le-ltb 1027 r.bytes most, sym good, eq-eqb r.register 0xF0B8 h);
-          bits = rw e (pack_is ∙ ap (λ (k : ℕ). packed k c) three);
-          long = whole ∙ ap (λ (k : ℕ). 8 * k) three;
-          inside = i;
+        pub weighed_content : r.register ≡ 0xF0B8 → Weighs span (Ok (r.bytes - 3))
+        unfolding content_refusal
+        weighed_content h = record {
+          good = rw (left_is, eq-eqb r.left 0 z, bytes_is, le-ltb r.bytes 4 four, le-ltb 1027 r.bytes most, sym good, eq-eqb r.register 0xF0B8 h);
+          long = omega (arith, whole);
           least = omega arith;
           most = omega arith;
         }
-          where
-            three : r.bytes ≡ r.bytes - 3 + 3
-            three = omega arith

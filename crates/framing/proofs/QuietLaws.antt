@@ -3,9 +3,9 @@ use Prim.Native.Nat.{ℕ, ◌+◌, ◌*◌, ◌/◌, ◌%◌, ◌≤◌}
 use native.Mathlib.Omega.{arith}
 use mathlib.Core.Path.{◌≡◌, sym, ap, ◌∙◌}
 use mathlib.Core.Bool.{Bool}
-use mathlib.Core.List.{List, ◌++◌, append-nil, append_assoc}
+use mathlib.Core.List.{List, ◌++◌, append_assoc}
 use lib.ListN.{length, get_or}
-use lib.Seq.{slice, slice_empty}
+use lib.Seq.{slice}
 use Rattle.framing.specs.Bits.{bits_of, to_bits}
 use Rattle.framing.specs.Reading.{scan}
 use Rattle.framing.specs.Inner.{TakenOut, Passes}

@@ -2,27 +2,20 @@
 use Prim.Native.Nat.{ℕ, ◌+◌, ◌/◌, ◌<◌, ◌≤◌}
 use mathlib.Core.Path.{◌≡◌, refl}
 use mathlib.Core.Bool.{Bool, true, false, cond, not, ◌&&◌}
-use mathlib.Core.List.{List, ◌∷◌}
+use mathlib.Core.List.{List}
 use lib.Dec.{leb, ltb}
 use lib.ListN.{length}
 use borrow.Author.Tests.{lt-ltb, le-ltb, le-leb, leb-true, ne_eqb}
 use Rattle.rows.specs.Rows.{over}
 use Rattle.rows.proofs.BoolLaws.{and_left, and_right}
 use Rattle.framing.specs.Bits.{bytes_for, pack}
-use Rattle.framing.specs.Check.{check, check_bytes}
-use Rattle.framing.specs.Frame.{framed, content, frame_bits}
+use Rattle.framing.specs.Frame.{frame_bits}
 use Rattle.framing.specs.Writing.{write_refusal, bits_after, Writes}
-use Rattle.framing.specs.Inner.{bytes_sent}
 use Rattle.std.specs.Prelude.{Ok, Err}
 use Rattle.refusals.specs.declared.Refusal.{Refusal}
 use Rattle.refusals.specs.declared.Refusal.TheVariants.{DataTooLong, ShortBuffer}
 use Rattle.refusals.specs.Refusals.{number}
 use Rattle.refusals.proofs.OutcomeLaws.{number_never_0}
-
--- the check that the code has in hand
-pub with_check : (user f : ℕ) (d : List ℕ) → f ≡ check (user ∷ d) → framed (bytes_sent user d f) ≡ frame_bits user d
-unfolding frame_bits content check_bytes
-with_check user f d e = rw e
 
 refused : (user : ℕ) (d b : List ℕ) (e : Refusal) → write_refusal user d b ≡ number e → Writes user d b (Err e) b
 unfolding bits_after

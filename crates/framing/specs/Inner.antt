@@ -3,11 +3,10 @@ use Rattle.std.specs.Prelude.{ℕ, ◌+◌, ◌-◌, ◌*◌, ◌/◌, ◌%◌, 
 use Rattle.refusals.specs.declared.Refusal.{Refusal}
 use Rattle.refusals.specs.Refusals.{number}
 use Rattle.rows.specs.Words.{build}
-use Rattle.rows.specs.Numbers.{low_bytes}
 use Rattle.framing.specs.Bits.{bits_of, to_bits, bit, value, packed}
 use Rattle.framing.specs.Zeros.{with_zeros, without_zeros}
 use Rattle.framing.specs.Check.{check_from}
-use Rattle.framing.specs.Reading.{stopped, scan, scan_refusal, line_refusal, content_in}
+use Rattle.framing.specs.Reading.{stopped, scan, scanned, content_refusal, scan_refusal, line_refusal}
 use Rattle.framing.specs.declared.runs.Run.{Run}
 use Rattle.framing.specs.declared.runs.Taken.{Taken}
 use Rattle.framing.specs.declared.runs.Pen.{Pen}
@@ -16,7 +15,7 @@ use Rattle.framing.specs.declared.runs.Taker.{Taker}
 use Rattle.framing.specs.declared.runs.Passed.{Passed}
 use Rattle.framing.specs.declared.runs.Span.{Span}
 use Rattle.framing.specs.declared.take.Summed.{Summed}
-use Rattle.framing.specs.declared.Content.{Content}
+use Rattle.framing.specs.declared.Measured.{Measured}
 
 -- the ones that stand last: of bits with their zeros put in, and of bits whose zeros are taken out
 unfoldable pub ones_after : ℕ → List Bool → ℕ
@@ -75,10 +74,6 @@ standing out p = to_bits (take p.at out) ++ bits_of p.held p.acc
 unfoldable pub place : Pen → ℕ
 place p = 8 * p.at + p.held
 
--- the bytes between the flags: user number, data, and the check's number, low byte first
-abbrev pub bytes_sent : ℕ → List ℕ → ℕ → List ℕ
-bytes_sent user d sum = (user ∷ d) ++ low_bytes 2 sum
-
 -- room for bits with their zeros
 abbrev pub HasRoom : List ℕ → Pen → List Bool → Type 0
 HasRoom out p bs = place p + length (with_zeros p.ones bs) ≤ 8 * length out
@@ -98,6 +93,13 @@ pub record Lays (out : List ℕ) (p : Pen) (bs : List Bool) (out' : List ℕ) (p
 pub record Sends (out : List ℕ) (p : Pen) (bs : List Bool) (out' : List ℕ) (p' : Pen) : Type 0 where
   pub lays : Lays out p (with_zeros p.ones bs) out' p'
   pub ones : p'.ones ≡ ones_after p.ones bs
+
+-- the bits of a span, and the same without their zeros
+abbrev pub between : Span → List Bool
+between span = drop span.from (take span.to (to_bits span.bytes.now))
+
+abbrev pub plain : Span → List Bool
+plain span = without_zeros 0 (between span)
 
 -- a whole byte stands at a place before another
 unfoldable pub whole_byte : ℕ → ℕ → Bool
@@ -126,20 +128,24 @@ pub record Passes (b : List Bool) (n at : ℕ) (r : Passed) : Type 0 where
   pub few : r.ones ≤ 5
   pub rest : (since : List Bool) → scan 0 since (drop at (take n b)) ≡ scan r.ones (since ++ drop at (take r.at b)) (drop r.at (take n b))
 
--- where the search for the closing flag stopped: at the end of some bits, or refused
-abbrev pub Stops : List Bool → ℕ → Result Span Refusal → Type 0
-Stops b n (Ok span) = (scan 0 [] (drop 8 (take n b)) ≡ stopped (drop span.from (take span.to b))) × (span.to ≤ n)
-Stops b n (Err r) = scan_refusal (scan 0 [] (drop 8 (take n b))) ≡ number r
+-- where the search for the closing flag stopped: at the end of a span, or refused
+abbrev pub Stops : List ℕ → ℕ → Result Span Refusal → Type 0
+Stops s n (Ok span) = scan 0 [] (drop 8 (take n (to_bits s))) ≡ stopped (between span)
+Stops s n (Err r) = scan_refusal (scan 0 [] (drop 8 (take n (to_bits s)))) ≡ number r
 
--- the content that stands between two places without its zeros: its bytes are data and three more
-pub record Holds (s : List ℕ) (n from to len : ℕ) : Type 0 where
-  pub good : line_refusal s n ≡ 0
-  pub bits : content_in s n ≡ packed (len + 3) (without_zeros 0 (drop from (take to (to_bits s))))
-  pub long : length (without_zeros 0 (drop from (take to (to_bits s)))) ≡ 8 * (len + 3)
-  pub inside : to ≤ 8 * length s
+-- a span without its zeros is a content: its bytes are data and three more
+pub record Holds (span : Span) (len : ℕ) : Type 0 where
+  pub good : content_refusal (plain span) ≡ 0
+  pub long : length (plain span) ≡ 8 * (len + 3)
   pub least : 1 ≤ len
   pub most : len ≤ 1024
 
-abbrev pub Measures : List ℕ → ℕ → Result Content Refusal → Type 0
-Measures s n (Ok c) = Holds s n c.span.from c.span.to c.length
+-- how many bytes of a span are data, or why it is no content
+abbrev pub Weighs : Span → Result ℕ Refusal → Type 0
+Weighs span (Ok len) = Holds span len
+Weighs span (Err r) = content_refusal (plain span) ≡ number r
+
+-- the content that stands on the line
+abbrev pub Measures : List ℕ → ℕ → Result Measured Refusal → Type 0
+Measures s n (Ok c) = (scanned s n ≡ stopped (between c.span)) × Holds c.span c.length
 Measures s n (Err r) = line_refusal s n ≡ number r

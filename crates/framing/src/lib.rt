@@ -9,14 +9,13 @@ mod send;
 mod take;
 mod zeros;
 
-ghost use Rattle.std.specs.Prelude.{◌≡◌, ◌*◌, ◌≤◌, length, take as firsts, drop};
-ghost use Rattle.framing.specs.Bits.{to_bits};
-ghost use Rattle.framing.specs.Reading.{scanned, stopped, Reads, ReadsStart};
+ghost use Rattle.framing.specs.Reading.{Reads, ReadsStart};
 ghost use Rattle.framing.specs.Writing.{Writes};
-ghost use Rattle.framing.specs.Inner.{Measures};
+ghost use Rattle.framing.specs.Inner.{Weighs, Measures};
 
 use refusals::Refusal;
 use runs::Span;
+use send::Content;
 
 // The register after a content whose check is right.
 const GOOD: u16 = 0xf0b8;
@@ -33,8 +32,8 @@ pub struct Heading {
 
 // Where the content stands, and how many of its bytes are data.
 #[derive(Clone, Copy)]
-struct Content {
-    span: Span,
+struct Measured<'a> {
+    span: Span<'a>,
     length: usize,
 }
 
@@ -45,21 +44,20 @@ pub fn write(user: u8, data: &[u8], bits: &mut [u8]) -> Result<u16, Refusal>
     if data.is_empty() || 1024 < data.len() {
         return Err(Refusal::DataTooLong);
     }
-    let sum = fcs::of_frame(user, data);
-    let count = send::count(user, data, sum);
+    let content = Content::new(user, data);
+    let count = content.count();
     if bits.len() < count.div_ceil(8) {
         return Err(Refusal::ShortBuffer);
     }
-    send::put_frame(bits, user, data, sum);
+    content.put_frame(bits);
     Ok(count as u16)
 }
 
-// The content between two places: 20, 21, 17 or 22.
-fn weigh(s: &[u8], n: usize, span: Span) -> Result<Content, Refusal>
-    requires { (span.to ≤ 8 * length s.now) × (scanned s.now n ≡ stopped (drop span.from (firsts span.to (to_bits s.now)))) }
-    ensures { Measures s.now n result }
+// How many bytes of the content in a span are data: 20, 21, 17 or 22.
+fn weigh(span: &Span) -> Result<usize, Refusal>
+    ensures { Weighs span.now result }
 {
-    let sum = take::sum(s, span);
+    let sum = span.sum();
     if sum.left != 0 {
         return Err(Refusal::NoWholeBytes);
     }
@@ -72,19 +70,19 @@ fn weigh(s: &[u8], n: usize, span: Span) -> Result<Content, Refusal>
     if sum.register != GOOD {
         return Err(Refusal::WrongCheck);
     }
-    let length = sum.bytes - 3;
-    Ok(Content { span, length })
+    Ok(sum.bytes - 3)
 }
 
 // The content that stands on the line: 18, 19, 20, 21, 17 or 22.
-fn measure(s: &[u8], n: usize) -> Result<Content, Refusal>
+fn measure(s: &[u8], n: usize) -> Result<Measured<'_>, Refusal>
     ensures { Measures s.now n result }
 {
     if !receive::opens(s, n) {
         return Err(Refusal::NoFlag);
     }
     let span = receive::find(s, n)?;
-    weigh(s, n, span)
+    let length = weigh(&span)?;
+    Ok(Measured { span, length })
 }
 
 // Reads a frame: 18, 19, 20, 21, 17, 22 or 13. The data stand in the buffer.
@@ -95,7 +93,7 @@ pub fn read(bits: &[u8], count: usize, data: &mut [u8]) -> Result<Heading, Refus
     if data.len() < content.length {
         return Err(Refusal::ShortBuffer);
     }
-    let user = take::deliver(bits, content.span, data, content.length);
+    let user = content.span.deliver(data, content.length);
     let length = content.length as u16;
     Ok(Heading { user, length })
 }
@@ -106,7 +104,7 @@ pub fn read_start(bits: &[u8], count: usize, start: &mut [u8]) -> Result<Heading
 {
     let content = measure(bits, count)?;
     let held = content.length.min(start.len());
-    let user = take::deliver(bits, content.span, start, held);
+    let user = content.span.deliver(start, held);
     let length = content.length as u16;
     Ok(Heading { user, length })
 }

@@ -49,9 +49,9 @@ fn next_start(ones: usize, from: usize, at: usize) -> usize
 }
 
 // Looks for the closing flag: 18, 19, or the bits before it. A zero takes the place on to where `quiet` stops, a one by one.
-pub fn find(s: &[u8], n: usize) -> Result<Span, Refusal>
+pub fn find(s: &[u8], n: usize) -> Result<Span<'_>, Refusal>
     requires { (8 ≤ n) × (n ≤ 8 * length s.now) }
-    ensures { Stops (to_bits s.now) n result }
+    ensures { Stops s.now n result }
 {
     let mut from = 8;
     let mut at = 8;
@@ -66,8 +66,11 @@ pub fn find(s: &[u8], n: usize) -> Result<Span, Refusal>
             ones += 1;
         } else {
             if closes(ones, at - from) {
-                let to = at - 8;
-                return Ok(Span { from, to });
+                return Ok(Span {
+                    bytes: s,
+                    from,
+                    to: at - 8,
+                });
             }
             from = next_start(ones, from, at);
             let q = quiet(s, n, at);

@@ -1,5 +1,5 @@
 // Bits in hand: those that a table gives, and those that are sent and taken.
-ghost use Rattle.std.specs.Prelude.{◌≡◌, ◌<◌, ◌≤◌, ◌^◌};
+ghost use Rattle.std.specs.Prelude.{◌≡◌, ◌*◌, ◌<◌, ◌≤◌, ◌^◌, length};
 
 // Eight bits at most, how many they are, and how many ones then stand last.
 #[derive(Clone, Copy)]
@@ -91,10 +91,12 @@ pub struct Passed {
     pub ones: usize,
 }
 
-// The bits from a place to before another.
+// The bits from a place to before another, in the bytes that hold them.
 #[derive(Clone, Copy)]
-pub struct Span {
+pub struct Span<'a> {
+    pub bytes: &'a [u8],
     pub from: usize,
     pub to: usize,
     pub ghost order: { from ≤ to },
+    pub ghost within: { to ≤ 8 * length bytes.now },
 }

@@ -1,12 +1,13 @@
 // Sending: bits laid into bytes, low bit first, with a zero after five ones.
-ghost use Rattle.std.specs.Prelude.{◌≡◌, ◌+◌, ◌*◌, ◌<◌, ◌≤◌, ◌^◌, ◌++◌, length};
+ghost use Rattle.std.specs.Prelude.{◌≡◌, ◌+◌, ◌*◌, ◌<◌, ◌≤◌, ◌^◌, ◌∷◌, ◌++◌, length};
 ghost use Rattle.rows.specs.Rows.{over};
 ghost use Rattle.framing.specs.Bits.{bits_of, to_bits, pack};
-ghost use Rattle.framing.specs.Frame.{flag, framed};
-ghost use Rattle.framing.specs.Inner.{place, standing, bytes_sent, EachByte, HasRoom, Lays, Sends, Counts};
+ghost use Rattle.framing.specs.Check.{«check» as check_of};
+ghost use Rattle.framing.specs.Frame.{flag, content, frame_bits};
+ghost use Rattle.framing.specs.Inner.{place, standing, EachByte, HasRoom, Lays, Sends, Counts};
 
 use crate::runs::{Pen, Run, Tally};
-use crate::zeros;
+use crate::{fcs, zeros};
 
 // Lays the bits of a run.
 fn put(out: &mut [u8], pen: Pen, run: Run) -> Pen
@@ -64,16 +65,6 @@ fn put_bytes(out: &mut [u8], pen: Pen, bytes: &[u8]) -> Pen
     p
 }
 
-// Sends user number, data and check, its low byte first.
-fn put_content(out: &mut [u8], pen: Pen, user: u8, data: &[u8], sum: u16) -> Pen
-    requires { HasRoom out.old pen (to_bits (bytes_sent user «data».now sum)) }
-    ensures { Sends out.old pen (to_bits (bytes_sent user «data».now sum)) out.new result }
-{
-    let first = put_byte(out, pen, user);
-    let last = put_bytes(out, first, data);
-    put_bytes(out, last, &sum.to_le_bytes())
-}
-
 // Lays two flags.
 fn put_flags(out: &mut [u8], pen: Pen) -> Pen
     requires { place pen + 16 ≤ 8 * length out.old }
@@ -98,17 +89,6 @@ fn put_rest(out: &mut [u8], pen: Pen)
     }
 }
 
-// Writes a frame, for which there is room.
-pub fn put_frame(out: &mut [u8], user: u8, data: &[u8], sum: u16)
-    requires { length (framed (bytes_sent user «data».now sum)) ≤ 8 * length out.old }
-    ensures { out.new ≡ over (pack (framed (bytes_sent user «data».now sum))) out.old }
-{
-    let opened = put_flags(out, Pen::new());
-    let sent = put_content(out, opened, user, data, sum);
-    let closed = put_flags(out, sent);
-    put_rest(out, closed);
-}
-
 // Counts a byte's bits.
 fn count_byte(tally: Tally, byte: u8) -> Tally
     requires { tally.bits < 2 ^ 32 }
@@ -122,7 +102,8 @@ fn count_byte(tally: Tally, byte: u8) -> Tally
     }
 }
 
-// Counts the bits of bytes.
+// Counts the bits of bytes. This loop and that of `put_bytes` stay two: a trait over both would need a ghost room, a ghost
+// relation and the laws by which they add up, to save five lines.
 fn count_bytes(tally: Tally, bytes: &[u8]) -> Tally
     requires { (tally.bits < 2 ^ 16) × (length bytes.now ≤ 1024) }
     ensures { Counts tally (to_bits bytes.now) result }
@@ -134,12 +115,52 @@ fn count_bytes(tally: Tally, bytes: &[u8]) -> Tally
     t
 }
 
-// Counts the bits of a frame: those of four flags, and those between them.
-pub fn count(user: u8, data: &[u8], sum: u16) -> usize
-    requires { length «data».now ≤ 1024 }
-    ensures { (result ≡ length (framed (bytes_sent user «data».now sum))) × (result < 2 ^ 16) }
-{
-    let first = count_byte(Tally { bits: 32, ones: 0 }, user);
-    let last = count_bytes(first, data);
-    count_bytes(last, &sum.to_le_bytes()).bits
+// What stands between the flags: user number, data, and their check.
+#[derive(Clone, Copy)]
+pub struct Content<'a> {
+    user: u8,
+    data: &'a [u8],
+    sum: u16,
+    ghost checked: { sum ≡ check_of (user ∷ «data».now) },
+}
+
+impl<'a> Content<'a> {
+    // User number and data with their check.
+    pub fn new(user: u8, data: &'a [u8]) -> Content<'a>
+        ensures { (result.user ≡ user) × (result.«data».now ≡ «data».now) }
+    {
+        let sum = fcs::of_frame(user, data);
+        Content { user, data, sum }
+    }
+
+    // Sends user number, data and check, its low byte first.
+    fn put(&self, out: &mut [u8], pen: Pen) -> Pen
+        requires { HasRoom out.old pen (to_bits (content self.now.user self.now.«data».now)) }
+        ensures { Sends out.old pen (to_bits (content self.now.user self.now.«data».now)) out.new result }
+    {
+        let first = put_byte(out, pen, self.user);
+        let last = put_bytes(out, first, self.data);
+        put_bytes(out, last, &self.sum.to_le_bytes())
+    }
+
+    // Writes a frame, for which there is room.
+    pub fn put_frame(&self, out: &mut [u8])
+        requires { length (frame_bits self.now.user self.now.«data».now) ≤ 8 * length out.old }
+        ensures { out.new ≡ over (pack (frame_bits self.now.user self.now.«data».now)) out.old }
+    {
+        let opened = put_flags(out, Pen::new());
+        let sent = self.put(out, opened);
+        let closed = put_flags(out, sent);
+        put_rest(out, closed);
+    }
+
+    // Counts the bits of a frame: those of four flags, and those between them.
+    pub fn count(&self) -> usize
+        requires { length self.now.«data».now ≤ 1024 }
+        ensures { (result ≡ length (frame_bits self.now.user self.now.«data».now)) × (result < 2 ^ 16) }
+    {
+        let first = count_byte(Tally { bits: 32, ones: 0 }, self.user);
+        let last = count_bytes(first, self.data);
+        count_bytes(last, &self.sum.to_le_bytes()).bits
+    }
 }

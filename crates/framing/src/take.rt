@@ -1,8 +1,7 @@
 // Taking: the bits between two places, without their zeros, a byte at a time.
-ghost use Rattle.std.specs.Prelude.{◌≡◌, ◌+◌, ◌-◌, ◌*◌, ◌/◌, ◌<◌, ◌≤◌, ◌^◌, ◌%◌, false, ◌++◌, length, take, drop, get_or};
+ghost use Rattle.std.specs.Prelude.{◌≡◌, ◌+◌, ◌-◌, ◌*◌, ◌/◌, ◌<◌, ◌≤◌, ◌^◌, ◌%◌, false, ◌++◌, length, drop, get_or};
 ghost use Rattle.framing.specs.Bits.{to_bits, packed};
-ghost use Rattle.framing.specs.Zeros.{without_zeros};
-ghost use Rattle.framing.specs.Inner.{whole_byte, coming, Goes, Sums};
+ghost use Rattle.framing.specs.Inner.{whole_byte, coming, plain, Goes, Sums};
 
 use crate::runs::{Span, Taken, Taker};
 use crate::{fcs, zeros};
@@ -45,19 +44,6 @@ fn go_over(t: Taker, n: usize, taken: Taken) -> Taker
     }
 }
 
-// Takes the next byte where one stands whole, or the next bit.
-fn step(s: &[u8], to: usize, t: Taker) -> Taker
-    requires { (to ≤ 8 * length s.now) × (t.held < 8) × (t.at < to) }
-    ensures { Goes (to_bits s.now) to t result × (t.at < result.at) }
-{
-    let at = t.at;
-    let ones = t.ones;
-    if is_whole(at, to) {
-        return go_over(t, 8, zeros::byte_taken(ones, s[at / 8]));
-    }
-    go_over(t, 1, zeros::bit_taken(ones, bit_at(s, at)))
-}
-
 // The byte in hand.
 fn byte_of(t: Taker) -> u8
     ensures { result ≡ t.acc % 256 }
@@ -78,60 +64,74 @@ fn rest_of(t: Taker) -> Taker
     }
 }
 
-// The sum of all bits between two places. The loop counts nothing: a step goes on by a byte or by a bit.
-pub fn sum(s: &[u8], span: Span) -> Summed
-    requires { span.to ≤ 8 * length s.now }
-    ensures { Sums (without_zeros 0 (drop span.from (take span.to (to_bits s.now)))) result }
-{
-    let mut register: u16 = 65535;
-    let mut bytes: usize = 0;
-    let mut t = Taker::new(span.from);
-    while t.at < span.to {
-        t = step(s, span.to, t);
-        if 8 <= t.held {
-            register = fcs::add_byte(register, byte_of(t));
-            bytes += 1;
-            t = rest_of(t);
+impl Span<'_> {
+    // Takes the next byte where one stands whole, or the next bit.
+    fn step(&self, t: Taker) -> Taker
+        requires { (t.held < 8) × (t.at < self.now.to) }
+        ensures { Goes (to_bits self.now.bytes.now) self.now.to t result × (t.at < result.at) }
+    {
+        let at = t.at;
+        let ones = t.ones;
+        if is_whole(at, self.to) {
+            return go_over(t, 8, zeros::byte_taken(ones, self.bytes[at / 8]));
+        }
+        go_over(t, 1, zeros::bit_taken(ones, bit_at(self.bytes, at)))
+    }
+
+    // The sum of all bits. The loop counts nothing: a step goes on by a byte or by a bit.
+    pub fn sum(&self) -> Summed
+        ensures { Sums (plain self.now) result }
+    {
+        let mut register: u16 = 65535;
+        let mut bytes: usize = 0;
+        let mut t = Taker::new(self.from);
+        while t.at < self.to {
+            t = self.step(t);
+            if 8 <= t.held {
+                register = fcs::add_byte(register, byte_of(t));
+                bytes += 1;
+                t = rest_of(t);
+            }
+        }
+        Summed {
+            bytes,
+            left: t.held,
+            register,
         }
     }
-    Summed {
-        bytes,
-        left: t.held,
-        register,
-    }
-}
 
-// Goes on until a byte is in hand, by as many steps as that takes.
-fn pull(s: &[u8], to: usize, t: Taker) -> Taker
-    requires { (to ≤ 8 * length s.now) × (t.at ≤ to) × (8 ≤ length (coming (to_bits s.now) to t)) }
-    ensures { Goes (to_bits s.now) to t result × (8 ≤ result.held) }
-{
-    let mut r = t;
-    while r.held < 8 {
-        r = step(s, to, r);
+    // Goes on until a byte is in hand, by as many steps as that takes.
+    fn pull(&self, t: Taker) -> Taker
+        requires { (t.at ≤ self.now.to) × (8 ≤ length (coming (to_bits self.now.bytes.now) self.now.to t)) }
+        ensures { Goes (to_bits self.now.bytes.now) self.now.to t result × (8 ≤ result.held) }
+    {
+        let mut r = t;
+        while r.held < 8 {
+            r = self.step(r);
+        }
+        r
     }
-    r
-}
 
-// Copies the next n bytes to the start of a buffer.
-fn copy(s: &[u8], to: usize, t: Taker, out: &mut [u8], n: usize)
-    requires { (to ≤ 8 * length s.now) × (t.at ≤ to) × (8 * n ≤ length (coming (to_bits s.now) to t)) × (n ≤ length out.old) }
-    ensures { out.new ≡ packed n (coming (to_bits s.now) to t) ++ drop n out.old }
-{
-    let mut r = t;
-    for byte in &mut out[..n] {
-        r = pull(s, to, r);
-        *byte = byte_of(r);
-        r = rest_of(r);
+    // Copies the next n bytes to the start of a buffer.
+    fn copy(&self, t: Taker, out: &mut [u8], n: usize)
+        requires { (t.at ≤ self.now.to) × (8 * n ≤ length (coming (to_bits self.now.bytes.now) self.now.to t)) × (n ≤ length out.old) }
+        ensures { out.new ≡ packed n (coming (to_bits self.now.bytes.now) self.now.to t) ++ drop n out.old }
+    {
+        let mut r = t;
+        for byte in &mut out[..n] {
+            r = self.pull(r);
+            *byte = byte_of(r);
+            r = rest_of(r);
+        }
     }
-}
 
-// Gives the first byte between two places, and copies the next n.
-pub fn deliver(s: &[u8], span: Span, out: &mut [u8], n: usize) -> u8
-    requires { (span.to ≤ 8 * length s.now) × (8 * (n + 1) ≤ length (without_zeros 0 (drop span.from (take span.to (to_bits s.now))))) × (n ≤ length out.old) }
-    ensures { (result ≡ get_or (packed (n + 1) (without_zeros 0 (drop span.from (take span.to (to_bits s.now))))) 0 0) × (out.new ≡ drop 1 (packed (n + 1) (without_zeros 0 (drop span.from (take span.to (to_bits s.now))))) ++ drop n out.old) }
-{
-    let first = pull(s, span.to, Taker::new(span.from));
-    copy(s, span.to, rest_of(first), out, n);
-    byte_of(first)
+    // Gives the first byte, and copies the next n.
+    pub fn deliver(&self, out: &mut [u8], n: usize) -> u8
+        requires { (8 * (n + 1) ≤ length (plain self.now)) × (n ≤ length out.old) }
+        ensures { (result ≡ get_or (packed (n + 1) (plain self.now)) 0 0) × (out.new ≡ drop 1 (packed (n + 1) (plain self.now)) ++ drop n out.old) }
+    {
+        let first = self.pull(Taker::new(self.from));
+        self.copy(rest_of(first), out, n);
+        byte_of(first)
+    }
 }

@@ -8,7 +8,7 @@ returns-in_err-content c =
     let refused = read_refused a.bits.now a.count a.«data».now c.in_err-content.field-0.0 c.in_err-content.ensures in search rules
 
 pub returns-then-data-content : goal.returns-then-data-content
-returns-then-data-content c = read_13 _ _ _ _ _ c.in_ok-content.ensures _ c.if-data-content.true
+returns-then-data-content c = read_13 _ _ _ _ c.in_ok-content.ensures _ c.if-data-content.true
 
 pub returns : goal.returns
-returns c = let got = c.deliver-user.ensures in read_data _ _ _ _ _ c.in_ok-content.ensures _ c.if-data-content.false _ _ got.0 got.1
+returns c = let got = c.deliver-user.ensures in read_data _ _ _ _ c.in_ok-content.ensures _ c.if-data-content.false _ _ got.0 got.1

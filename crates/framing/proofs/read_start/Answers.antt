@@ -10,9 +10,9 @@ returns-in_err-content c =
 
 pub deliver-user-requires : goal.deliver-user-requires
 deliver-user-requires c =
-    let holds = c.in_ok-content.ensures in
+    let holds = c.in_ok-content.ensures.1 in
     let least = c.min-held.ensures in
-    (holds.inside, omega (arith, holds.long, least), omega (arith, least))
+    (omega (arith, holds.long, least), omega (arith, least))
 
 pub returns : goal.returns
-returns c = let got = c.deliver-user.ensures in read_start _ _ _ _ _ c.in_ok-content.ensures _ _ _ _ c.min-held.ensures got.0 got.1
+returns c = let got = c.deliver-user.ensures in read_start _ _ _ _ c.in_ok-content.ensures _ _ _ _ c.min-held.ensures got.0 got.1

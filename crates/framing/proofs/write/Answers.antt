@@ -1,8 +1,8 @@
 use Prim.Native.Nat.{◌≤◌}
 use native.Mathlib.Omega.{arith}
-use mathlib.Core.Path.{◌≡◌, sym, ap, ◌∙◌}
+use mathlib.Core.Path.{◌≡◌}
 use lib.ListN.{length}
-use Rattle.framing.proofs.WriteLaws.{with_check, written_17, written_13, written_bits}
+use Rattle.framing.proofs.WriteLaws.{written_17, written_13, written_bits}
 use borrow.Author.Rules.{rules}
 use Rattle.framing.proofs.write.Goals as goal
 use Rattle.framing.proofs.write.Goals.{then-is_empty-via-then-is_empty, then-is_empty-via-else-is_empty+then-data-gt1024}
@@ -16,16 +16,15 @@ returns-then-is_empty c = written_17 _ _ _ λ l g. elim c.then-is_empty.branch [
 pub returns-then-bits-div_ceil : goal.returns-then-bits-div_ceil
 returns-then-bits-div_ceil c =
     let a = c.args in
-    let sum = c.of_frame-sum in
+    let new = c.new-content.ensures in
     let some : 1 ≤ length a.«data».now = search rules in
     written_13 a.user a.«data».now _ some c.if-data-gt1024.false c.count-count.result
-    (c.count-count.ensures.0 ∙ ap length (with_check a.user sum.result a.«data».now sum.ensures)) (omega (arith, c.if-bits-div_ceil.true, c.div_ceil.ensures))
+    (rw (new.0, new.1) at c.count-count.ensures.0) (omega (arith, c.if-bits-div_ceil.true, c.div_ceil.ensures))
 
 pub returns : goal.returns
 returns c =
     let a = c.args in
-    let sum = c.of_frame-sum in
-    let e = with_check a.user sum.result a.«data».now sum.ensures in
+    let new = c.new-content.ensures in
     let some : 1 ≤ length a.«data».now = search rules in
     written_bits a.user a.«data».now _ _ some c.if-data-gt1024.false c.count-count.result
-    (c.count-count.ensures.0 ∙ ap length e) (omega (arith, c.if-bits-div_ceil.false, c.div_ceil.ensures)) (rw (sym e) c.put_frame.ensures)
+    (rw (new.0, new.1) at c.count-count.ensures.0) (omega (arith, c.if-bits-div_ceil.false, c.div_ceil.ensures)) (rw (new.0, new.1) at c.put_frame.ensures)

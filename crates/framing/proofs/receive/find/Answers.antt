@@ -33,7 +33,7 @@ returns-then-closes c =
     let w = c.requires.1 in
     let bit = c.bit_at-bit in
     let closed = scan_closes (to_bits a.s.now) a.n at.from at.at at.ones (omega (arith, length_to_bits a.s.now, w)) at.invariant c.loop-at-test.true (sym bit.ensures ∙ c.if-bit.false) (sym c.closes.ensures ∙ c.if-closes.true) in
-    (sym closed.0, closed.1.1)
+    sym closed.0
 
 pub invariant_of-result : goal.invariant_of-result
 invariant_of-result c =
@@ -42,7 +42,7 @@ invariant_of-result c =
     let w = c.requires.1 in
     let bit = c.bit_at-bit in
     let closed = scan_closes (to_bits a.s.now) a.n at.from at.at at.ones (omega (arith, length_to_bits a.s.now, w)) at.invariant c.loop-at-test.true (sym bit.ensures ∙ c.if-bit.false) (sym c.closes.ensures ∙ c.if-closes.true) in
-    record { order = closed.1.0 }
+    record { order = closed.1.0; within = omega (arith, closed.1.1, w) }
 
 pub loop-at-preserved : goal.loop-at-preserved
 loop-at-preserved c =

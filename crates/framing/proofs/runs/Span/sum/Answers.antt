@@ -1,16 +1,16 @@
 use native.Mathlib.Omega.{arith}
 use Rattle.framing.specs.Bits.{to_bits}
 use Rattle.framing.proofs.SumLaws.{sum_starts, sum_step, sum_byte, sum_fits, sum_ends}
-use Rattle.framing.proofs.take.sum.Goals as goal
+use Rattle.framing.proofs.runs.Span.sum.Goals as goal
 
 pub loop-t-init : goal.loop-t-init
-loop-t-init c = let new = c.new-t.ensures in (sum_starts _ _ _ _ c.args.span.order new.0 new.1 new.2 new.3, omega arith)
+loop-t-init c = let new = c.new-t.ensures in (sum_starts _ _ _ _ c.args.self.now.order new.0 new.1 new.2 new.3, omega arith)
 
 pub overflow_add-bytes : goal.overflow_add-bytes
 overflow_add-bytes c =
     let at = c.loop-t in
-    let a = c.args in
-    record { fits = omega (arith, sum_fits (to_bits a.s.now) a.span.from a.span.to at.register at.bytes at.t at.invariant.0) }
+    let span = c.args.self.now in
+    record { fits = omega (arith, sum_fits (to_bits span.bytes.now) span.from span.to at.register at.bytes at.t at.invariant.0) }
 
 pub loop-t-preserved-then-t-ge8 : goal.loop-t-preserved-then-t-ge8
 loop-t-preserved-then-t-ge8 c =

@@ -1,12 +1,12 @@
 use Rattle.framing.specs.Bits.{to_bits}
 use Rattle.framing.proofs.TakeLaws.{goes_both, coming_more}
-use Rattle.framing.proofs.take.pull.Goals as goal
+use Rattle.framing.proofs.runs.Span.pull.Goals as goal
 
 pub step-r-requires : goal.step-r-requires
 step-r-requires c =
     let at = c.loop-r in
-    let a = c.args in
-    (c.requires.0, c.loop-r-test.true, coming_more (to_bits a.s.now) a.to at.r c.loop-r-test.true at.invariant.1)
+    let span = c.args.self.now in
+    (c.loop-r-test.true, coming_more (to_bits span.bytes.now) span.to at.r c.loop-r-test.true at.invariant.1)
 
 pub loop-r-preserved : goal.loop-r-preserved
 loop-r-preserved c =
