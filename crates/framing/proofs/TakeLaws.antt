@@ -16,9 +16,10 @@ use Rattle.rows.proofs.BoolLaws.{by_test, and_left, and_right}
 use Rattle.framing.specs.Bits.{odd, bits_of, to_bits, bit, value, packed}
 use Rattle.framing.specs.Zeros.{without_zeros}
 use Rattle.framing.specs.Check.{check_byte, check_from}
-use Rattle.framing.specs.Inner.{run_after, sixths, TakenOut, whole_byte, coming, Goes}
+use Rattle.framing.specs.Inner.{run_after, sixths, TakenOut, whole_byte, plain, coming, Goes}
 use Rattle.framing.specs.declared.runs.Taken.{Taken}
 use Rattle.framing.specs.declared.runs.Taker.{Taker}
+use Rattle.framing.specs.declared.runs.Span.{Span}
 use Rattle.framing.proofs.BitLaws.{bits_join, length_bits_of, length_to_bits, value_bits_of, length_packed, packed_more, take_drop, drop_to_bits}
 use Rattle.framing.proofs.CheckLaws.{check_append}
 use Rattle.framing.proofs.ZeroLaws.{without_append, run_append, sixths_append}
@@ -55,10 +56,16 @@ taken_both k xs ys a b z p q e f g h = record {
 }
 
 -- ---- a taker goes over bits that stand before the rest
-module _ (b : List Bool) (to : ℕ) (t : Taker) (few : t.held < 8) where
+module _ (span : Span) (t : Taker) (few : t.held < 8) where
+  abbrev b : List Bool
+  b = to_bits span.bytes.now
+
+  abbrev to : ℕ
+  to = span.to
+
   pub goes_over : (n : ℕ) (xs : List Bool) (z : Taken) (t' : Taker) → TakenOut t.ones xs z → t.at + n ≤ to
       → slice t.at to b ≡ xs ++ slice (t.at + n) to b
-      → t'.at ≡ t.at + n → t'.ones ≡ z.ones → t'.acc ≡ t.acc + z.bits * 2 ^ t.held → t'.held ≡ t.held + z.count → Goes b to t t'
+      → t'.at ≡ t.at + n → t'.ones ≡ z.ones → t'.acc ≡ t.acc + z.bits * 2 ^ t.held → t'.held ≡ t.held + z.count → Goes span t t'
   unfolding coming
   goes_over n xs z t' o h p e f g i = record {
     same =
@@ -70,7 +77,7 @@ module _ (b : List Bool) (to : ℕ) (t : Taker) (few : t.held < 8) where
   }
 
   -- while fewer than eight bits are in hand and eight are to come, bits stand before `to`
-  pub coming_more : 8 ≤ length (coming b to t) → t.at < to
+  pub coming_more : 8 ≤ length (coming span t) → t.at < to
   unfolding coming without_zeros
   coming_more h = by_test (leb to t.at)
       (λ y. absurd (none (drop_of_length-le (take to b) {i = t.at} (short (leb-true to t.at y))) h))
@@ -84,47 +91,49 @@ module _ (b : List Bool) (to : ℕ) (t : Taker) (few : t.held < 8) where
           let few' : 8 ≤ length (bits_of t.held t.acc ++ []) = rw e at h in
           omega (arith, few', length-append (bits_of t.held t.acc) [], length_bits_of t.held t.acc)
 
-pub goes_both : (b : List Bool) (to : ℕ) (t t' t'' : Taker) → Goes b to t t' → Goes b to t' t'' → Goes b to t t''
-goes_both b to t t' t'' g h = record { same = h.same ∙ g.same; inside = h.inside; further = omega (arith, g.further, h.further) }
+pub goes_both : (span : Span) (t t' t'' : Taker) → Goes span t t' → Goes span t' t'' → Goes span t t''
+goes_both span t t' t'' g h = record { same = h.same ∙ g.same; inside = h.inside; further = omega (arith, g.further, h.further) }
 
 -- where all bits are gone over, those in hand are left
-pub coming_last : (b : List Bool) (to : ℕ) (t : Taker) → t.at ≤ to → to ≤ t.at → length (coming b to t) ≡ t.held
+pub coming_last : (span : Span) (t : Taker) → t.at ≤ span.to → span.to ≤ t.at → length (coming span t) ≡ t.held
 unfolding coming without_zeros
-coming_last b to t r h =
+coming_last span t r h =
+    let b : List Bool = to_bits span.bytes.now in
+    let to : ℕ = span.to in
     let e : t.at ≡ to = omega (arith, r, h) in
     ap (λ (k : ℕ). length (bits_of t.held t.acc ++ without_zeros t.ones (slice k to b))) e
     ∙ ap (λ (q : List Bool). length (bits_of t.held t.acc ++ without_zeros t.ones q)) (slice_empty to b)
     ∙ length-append (bits_of t.held t.acc) []
     ∙ omega (arith, length_bits_of t.held t.acc)
 
-pub coming_least : (b : List Bool) (to : ℕ) (t : Taker) → t.held ≤ length (coming b to t)
+pub coming_least : (span : Span) (t : Taker) → t.held ≤ length (coming span t)
 unfolding coming
-coming_least b to t = omega (arith, length-append (bits_of t.held t.acc) (without_zeros t.ones (slice t.at to b)), length_bits_of t.held t.acc)
+coming_least span t = omega (arith, length-append (bits_of t.held t.acc) (without_zeros t.ones (slice t.at span.to (to_bits span.bytes.now))), length_bits_of t.held t.acc)
 
 -- a taker before its first step
-pub fresh_coming : (b : List Bool) (from to : ℕ) (t : Taker) → t.at ≡ from → t.ones ≡ 0 → t.acc ≡ 0 → t.held ≡ 0 → coming b to t ≡ without_zeros 0 (slice from to b)
+pub fresh_coming : (span : Span) (t : Taker) → t.at ≡ span.from → t.ones ≡ 0 → t.acc ≡ 0 → t.held ≡ 0 → coming span t ≡ plain span
 unfolding coming bits_of
-fresh_coming b from to t e f g h = rw (e, f, g, h)
+fresh_coming span t e f g h = rw (e, f, g, h)
 
 -- ---- the byte in hand, and the taker without it
-module _ (b : List Bool) (to : ℕ) (t t' : Taker) (l : 8 ≤ t.held)
+module _ (span : Span) (t t' : Taker) (l : 8 ≤ t.held)
     (e : t'.at ≡ t.at) (f : t'.ones ≡ t.ones) (g : t'.acc ≡ t.acc / 256) (i : t'.held ≡ t.held - 8) where
-  split_coming : coming b to t ≡ bits_of 8 (t.acc % 256) ++ coming b to t'
+  split_coming : coming span t ≡ bits_of 8 (t.acc % 256) ++ coming span t'
   unfolding coming
   split_coming =
       let m : ℕ = t.held - 8 in
       let whole : t.acc ≡ t.acc % 256 + t.acc / 256 * 2 ^ 8 = omega arith in
       let long : t.held ≡ 8 + m = omega arith in
       rw (e, f, g, i)
-      (ap (λ (q : List Bool). q ++ without_zeros t.ones (slice t.at to b))
+      (ap (λ (q : List Bool). q ++ without_zeros t.ones (slice t.at span.to (to_bits span.bytes.now)))
       (ap (λ (k : ℕ). bits_of k t.acc) long ∙ ap (bits_of (8 + m)) whole ∙ bits_join 8 m (t.acc % 256) (t.acc / 256) (omega arith))
-      ∙ append_assoc (bits_of 8 (t.acc % 256)) (bits_of m (t.acc / 256)) (without_zeros t.ones (slice t.at to b)))
+      ∙ append_assoc (bits_of 8 (t.acc % 256)) (bits_of m (t.acc / 256)) (without_zeros t.ones (slice t.at span.to (to_bits span.bytes.now))))
 
-  pub byte_taken : t.acc % 256 ≡ value (take 8 (coming b to t))
-  byte_taken = sym (ap (λ (q : List Bool). value (take 8 q)) split_coming ∙ ap value (take_at (bits_of 8 (t.acc % 256)) (coming b to t') 8 (length_bits_of 8 (t.acc % 256))) ∙ value_bits_of 8 (t.acc % 256) (omega arith))
+  pub byte_taken : t.acc % 256 ≡ value (take 8 (coming span t))
+  byte_taken = sym (ap (λ (q : List Bool). value (take 8 q)) split_coming ∙ ap value (take_at (bits_of 8 (t.acc % 256)) (coming span t') 8 (length_bits_of 8 (t.acc % 256))) ∙ value_bits_of 8 (t.acc % 256) (omega arith))
 
-  pub rest_taken : coming b to t' ≡ drop 8 (coming b to t)
-  rest_taken = sym (ap (drop 8) split_coming ∙ drop_at (bits_of 8 (t.acc % 256)) (coming b to t') 8 (length_bits_of 8 (t.acc % 256)))
+  pub rest_taken : coming span t' ≡ drop 8 (coming span t)
+  rest_taken = sym (ap (drop 8) split_coming ∙ drop_at (bits_of 8 (t.acc % 256)) (coming span t') 8 (length_bits_of 8 (t.acc % 256)))
 
 -- the bits in hand without eight of them
 pub rest_small : (held acc : ℕ) → acc < 2 ^ held → 8 ≤ held → acc / 256 < 2 ^ (held - 8)

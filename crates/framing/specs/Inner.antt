@@ -105,14 +105,14 @@ plain span = without_zeros 0 (between span)
 unfoldable pub whole_byte : ℕ → ℕ → Bool
 whole_byte at to = eqb (at % 8) 0 && leb 8 (to - at)
 
--- the bits that a taker still gives: those in hand, and those of b before `to`, without their zeros
-unfoldable pub coming : List Bool → ℕ → Taker → List Bool
-coming b to t = bits_of t.held t.acc ++ without_zeros t.ones (drop t.at (take to b))
+-- the bits that a taker still gives: those in hand, and those of the span that it has not gone over, without their zeros
+unfoldable pub coming : Span → Taker → List Bool
+coming span t = bits_of t.held t.acc ++ without_zeros t.ones (drop t.at (take span.to (to_bits span.bytes.now)))
 
 -- a taker that went on and gives the same bits
-pub record Goes (b : List Bool) (to : ℕ) (t t' : Taker) : Type 0 where
-  pub same : coming b to t' ≡ coming b to t
-  pub inside : t'.at ≤ to
+pub record Goes (span : Span) (t t' : Taker) : Type 0 where
+  pub same : coming span t' ≡ coming span t
+  pub inside : t'.at ≤ span.to
   pub further : t.at ≤ t'.at
 
 -- all whole bytes of the bits c: how many, their register, and how many bits are left

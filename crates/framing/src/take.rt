@@ -68,7 +68,7 @@ impl Span<'_> {
     // Takes the next byte where one stands whole, or the next bit.
     fn step(&self, t: Taker) -> Taker
         requires { (t.held < 8) × (t.at < self.now.to) }
-        ensures { Goes (to_bits self.now.bytes.now) self.now.to t result × (t.at < result.at) }
+        ensures { Goes self.now t result × (t.at < result.at) }
     {
         let at = t.at;
         let ones = t.ones;
@@ -102,8 +102,8 @@ impl Span<'_> {
 
     // Goes on until a byte is in hand, by as many steps as that takes.
     fn pull(&self, t: Taker) -> Taker
-        requires { (t.at ≤ self.now.to) × (8 ≤ length (coming (to_bits self.now.bytes.now) self.now.to t)) }
-        ensures { Goes (to_bits self.now.bytes.now) self.now.to t result × (8 ≤ result.held) }
+        requires { (t.at ≤ self.now.to) × (8 ≤ length (coming self.now t)) }
+        ensures { Goes self.now t result × (8 ≤ result.held) }
     {
         let mut r = t;
         while r.held < 8 {
@@ -114,8 +114,8 @@ impl Span<'_> {
 
     // Copies the next n bytes to the start of a buffer.
     fn copy(&self, t: Taker, out: &mut [u8], n: usize)
-        requires { (t.at ≤ self.now.to) × (8 * n ≤ length (coming (to_bits self.now.bytes.now) self.now.to t)) × (n ≤ length out.old) }
-        ensures { out.new ≡ packed n (coming (to_bits self.now.bytes.now) self.now.to t) ++ drop n out.old }
+        requires { (t.at ≤ self.now.to) × (8 * n ≤ length (coming self.now t)) × (n ≤ length out.old) }
+        ensures { out.new ≡ packed n (coming self.now t) ++ drop n out.old }
     {
         let mut r = t;
         for byte in &mut out[..n] {

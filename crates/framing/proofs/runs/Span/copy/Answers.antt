@@ -3,7 +3,7 @@ use native.Mathlib.Omega.{arith}
 use mathlib.Core.Path.{◌≡◌, refl, ap, ◌∙◌}
 use mathlib.Core.List.{List, ◌++◌, append-nil}
 use lib.ListN.{length, take, drop, length-drop, length-take, drop_of_length-le}
-use Rattle.framing.specs.Bits.{to_bits, value, packed}
+use Rattle.framing.specs.Bits.{value, packed}
 use Rattle.framing.specs.Inner.{coming}
 use Rattle.framing.proofs.TakeLaws.{byte_taken, rest_taken, drop_more, copy_more}
 use Rattle.framing.proofs.runs.Span.copy.Goals as goal
@@ -21,7 +21,7 @@ pull-r-requires c =
     let a = c.args in
     let span = a.self.now in
     let pre = c.requires in
-    (at.invariant.0, rw (at.invariant.1, length-drop (8 * at.byte-index) (coming (to_bits span.bytes.now) span.to a.t)) (omega (arith, pre.1, below _ _ _ pre.2 c.loop-byte-test.true)))
+    (at.invariant.0, rw (at.invariant.1, length-drop (8 * at.byte-index) (coming span a.t)) (omega (arith, pre.1, below _ _ _ pre.2 c.loop-byte-test.true)))
 
 pub loop-byte-preserved : goal.loop-byte-preserved
 loop-byte-preserved c =
@@ -32,13 +32,12 @@ loop-byte-preserved c =
     let span = a.self.now in
     let pre = c.requires in
     let rest = c.rest_of-r.ensures in
-    let b = to_bits span.bytes.now in
-    let c₀ = coming b span.to a.t in
-    let here : coming b span.to got.result ≡ drop (8 * i) c₀ = got.ensures.0.same ∙ at.invariant.1 in (
+    let c₀ = coming span a.t in
+    let here : coming span got.result ≡ drop (8 * i) c₀ = got.ensures.0.same ∙ at.invariant.1 in (
       rw rest.0 got.ensures.0.inside,
-      rest_taken b span.to got.result c.rest_of-r.result got.ensures.1 rest.0 rest.1 rest.2 rest.3 ∙ ap (drop 8) here ∙ drop_more c₀ i,
+      rest_taken span got.result c.rest_of-r.result got.ensures.1 rest.0 rest.1 rest.2 rest.3 ∙ ap (drop 8) here ∙ drop_more c₀ i,
       copy_more c₀ i c.byte_of.result _ _ at.invariant.2
-          (c.byte_of.ensures ∙ byte_taken b span.to got.result c.rest_of-r.result got.ensures.1 rest.0 rest.1 rest.2 rest.3 ∙ ap (λ q. value (take 8 q)) here)
+          (c.byte_of.ensures ∙ byte_taken span got.result c.rest_of-r.result got.ensures.1 rest.0 rest.1 rest.2 rest.3 ∙ ap (λ q. value (take 8 q)) here)
           c.loop-byte-test.true,
     )
 
@@ -50,6 +49,6 @@ returns c =
     let all : at.byte-index ≡ a.n = omega (arith, length-take a.n a.out.now, at.auto.byte-index-end, c.loop-byte-test.false, c.requires.2) in
     ap (λ l. l ++ drop a.n a.out.now)
     (at.invariant.2
-    ∙ ap (λ l. packed at.byte-index (coming (to_bits span.bytes.now) span.to a.t) ++ l) (drop_of_length-le (take a.n a.out.now) (c.loop-byte-test.false))
+    ∙ ap (λ l. packed at.byte-index (coming span a.t) ++ l) (drop_of_length-le (take a.n a.out.now) (c.loop-byte-test.false))
     ∙ append-nil _
-    ∙ ap (λ k. packed k (coming (to_bits span.bytes.now) span.to a.t)) all)
+    ∙ ap (λ k. packed k (coming span a.t)) all)

@@ -2,10 +2,8 @@ use native.Mathlib.Numerals.{add-one}
 use native.Mathlib.Omega.{arith}
 use mathlib.Core.Path.{◌≡◌, sym, ap, ◌∙◌}
 use lib.ListN.{take, drop, length-drop}
-use lib.Seq.{slice}
-use Rattle.framing.specs.Bits.{to_bits, value, packed}
-use Rattle.framing.specs.Zeros.{without_zeros}
-use Rattle.framing.specs.Inner.{coming}
+use Rattle.framing.specs.Bits.{value, packed}
+use Rattle.framing.specs.Inner.{plain, coming}
 use Rattle.framing.proofs.TakeLaws.{fresh_coming, byte_taken, rest_taken}
 use Rattle.framing.proofs.runs.Span.deliver.Goals as goal
 
@@ -15,7 +13,7 @@ pull-first-requires c =
     let span = a.self.now in
     let pre = c.requires in
     let new = c.new.ensures in
-    (rw new.0 span.order, rw (fresh_coming (to_bits span.bytes.now) span.from span.to c.new.result new.0 new.1 new.2 new.3) (omega (arith, pre.0)))
+    (rw new.0 span.order, rw (fresh_coming span c.new.result new.0 new.1 new.2 new.3) (omega (arith, pre.0)))
 
 pub copy-requires : goal.copy-requires
 copy-requires c =
@@ -25,11 +23,10 @@ copy-requires c =
     let pre = c.requires in
     let new = c.new.ensures in
     let rest = c.rest_of.ensures in
-    let b = to_bits span.bytes.now in
-    let all = without_zeros 0 (slice span.from span.to b) in
-    let left : coming b span.to c.rest_of.result ≡ drop 8 all =
-    rest_taken b span.to first.result c.rest_of.result first.ensures.1 rest.0 rest.1 rest.2 rest.3
-    ∙ ap (drop 8) (first.ensures.0.same ∙ fresh_coming b span.from span.to c.new.result new.0 new.1 new.2 new.3) in
+    let all = plain span in
+    let left : coming span c.rest_of.result ≡ drop 8 all =
+    rest_taken span first.result c.rest_of.result first.ensures.1 rest.0 rest.1 rest.2 rest.3
+    ∙ ap (drop 8) (first.ensures.0.same ∙ fresh_coming span c.new.result new.0 new.1 new.2 new.3) in
     (rw rest.0 first.ensures.0.inside, rw left (omega (arith, length-drop 8 all, pre.0)), pre.1)
 
 pub returns : goal.returns
@@ -40,11 +37,10 @@ returns c =
     let span = a.self.now in
     let taken = c.rest_of in
     let new = c.new.ensures in
-    let b = to_bits span.bytes.now in
-    let all = without_zeros 0 (slice span.from span.to b) in
-    let here : coming b span.to first.result ≡ all = first.ensures.0.same ∙ fresh_coming b span.from span.to c.new.result new.0 new.1 new.2 new.3 in
-    let left : coming b span.to taken.result ≡ drop 8 all =
-    rest_taken b span.to first.result taken.result first.ensures.1 taken.ensures.0 taken.ensures.1 taken.ensures.2 taken.ensures.3 ∙ ap (drop 8) here in
-    let user = c.byte_of.ensures ∙ byte_taken b span.to first.result taken.result first.ensures.1 taken.ensures.0 taken.ensures.1 taken.ensures.2 taken.ensures.3
+    let all = plain span in
+    let here : coming span first.result ≡ all = first.ensures.0.same ∙ fresh_coming span c.new.result new.0 new.1 new.2 new.3 in
+    let left : coming span taken.result ≡ drop 8 all =
+    rest_taken span first.result taken.result first.ensures.1 taken.ensures.0 taken.ensures.1 taken.ensures.2 taken.ensures.3 ∙ ap (drop 8) here in
+    let user = c.byte_of.ensures ∙ byte_taken span first.result taken.result first.ensures.1 taken.ensures.0 taken.ensures.1 taken.ensures.2 taken.ensures.3
     ∙ ap (λ q. value (take 8 q)) here in
     (rw (add-one a.n) user, rw (add-one a.n, sym left) c.copy.ensures)
