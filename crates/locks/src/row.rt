@@ -9,7 +9,8 @@ use crate::ROW;
 use terms::LockString;
 use terms::table::{Shape, Table};
 
-// The owner of row i.
+// The owner of row i. The bound on i stands here, in fill and in free_if_of: it is over a table that is lent by & or by &mut, so a
+// type that keeps it would be two.
 #[tactic(auto, using(rows::proofs::RowLaws::head_part), unfolding(crate::specs::Table::owner_at, crate::specs::Row::owner))]
 pub fn owner_of(table: &[u8], i: usize) -> u8
     requires { 16 * i + 16 ≤ length table.now }

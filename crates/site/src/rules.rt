@@ -149,7 +149,8 @@ impl<'a> Partitions<'a> {
         self.earlier_number(i).is_none()
     }
 
-    // The first of n rows that has both volume and number of an earlier one, or n, by marks as above.
+    // The first of n rows that has both volume and number of an earlier one, or n, by marks as above. It is no generic function with
+    // first_name_repeated: their key, hash, size of the map and search differ, so that nothing but the loop would be shared.
     fn first_number_repeated(&self, n: usize) -> usize
         requires { n ≤ self.now.count }
         ensures { result ≡ first (fails (number_alone self.now.file.now)) n }

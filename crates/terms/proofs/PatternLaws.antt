@@ -14,10 +14,9 @@ use lib.Pow.{pow_pos, pow_mono, pow-add, mod-pow-add, ones_split, ones_lt, high}
 use borrow.Author.Tests.{eqb-true, eq-eqb, ltb-true, ltb-false}
 use Rattle.rows.proofs.BoolLaws.{by_test, by_eq, both, iff}
 use Rattle.rows.proofs.IndexLaws.{all_at}
-use Rattle.rows.proofs.NumberLaws.{Bytes}
-use Rattle.rows.proofs.RowLaws.{part_end}
+use Rattle.rows.proofs.NumberLaws.{Bytes, low_worth}
 use Rattle.rows.specs.Numbers.{low_first}
-use Rattle.rows.specs.Rows.{part}
+use Rattle.std.specs.Int.{sum_through, byte_worth}
 use Rattle.rows.specs.Words.{all}
 use Rattle.terms.specs.declared.names.Pattern.{Pattern}
 use Rattle.terms.specs.Names.{pads, keeping, trimmed, same_name}
@@ -211,9 +210,9 @@ pub padding_small : (x m : ℕ) → 64 ≤ m → 0 < solid_in x → padding_in x
 padding_small x m h some = omega (arith, (leading_top 64 (solid_in x) some (solid_fits x)).1)
 
 -- the pattern of eight bytes, from the number in them all
-module _ (l : List ℕ) (eight : length l ≡ 8) (x : ℕ) (read : x ≡ low_first (part l 0 8)) where
+module _ (l : List ℕ) (eight : length l ≡ 8) (x : ℕ) (read : x ≡ sum_through (λ i. byte_worth i (get_or l i 0)) 7) where
   is : x ≡ low_first l
-  is = read ∙ ap low_first (part_end [] l 0 8 refl eight)
+  is = read ∙ sym (low_worth 7 l eight)
 
   pub match_is : (p : Pattern) → eqb (bit_and x p.mask) p.word ≡ matches l p
   unfolding matches

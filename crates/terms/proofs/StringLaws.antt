@@ -1,6 +1,5 @@
 -- The laws of lock strings. Two strings are the same exactly when their normal forms are equal.
 use Prim.Native.Nat.{ℕ, min, ◌+◌, ◌-◌, ◌≤◌, ◌<◌}
-use native.Mathlib.Nat.{add-zero}
 use native.Mathlib.Omega.{arith}
 use mathlib.Core.Path.{◌≡◌, refl, sym, ap, ◌∙◌}
 use mathlib.Core.Bool.{true, ◌&&◌}
@@ -34,6 +33,11 @@ string_inside l from w at h =
     let next : from + (at + 1) ≡ from + at + 1 = omega arith in
     rw (get_d_part l from w at (omega arith), part_part l from w (at + 1) 13 (omega arith), next)
 
+-- its length is the first byte
+pub len_first : (l : List ℕ) → get_or l 0 0 ≡ (string_at l 0).len
+unfolding string_at
+len_first l = refl
+
 -- its bytes are thirteen
 pub string_long : (l : List ℕ) (at : ℕ) → at + 14 ≤ length l → length (string_at l at).bytes ≡ 13
 unfolding string_at
@@ -52,23 +56,16 @@ key_used s full = by_test (leb s.len 13)
     (λ n. take_all (min s.len 13) s.bytes (omega (arith, leb-false s.len 13 n)) ∙ sym (take_all s.len s.bytes (omega (arith, leb-false s.len 13 n))))
 
 -- they stand behind the length
-pub key_part : (l : List ℕ) (at : ℕ) → at + 14 ≤ length l → part l (at + 1) (min (get_or l at 0) 13) ≡ key (string_at l at)
+pub key_part : (l : List ℕ) → length l ≡ 14 → part l 1 (min (get_or l 0 0) 13) ≡ key (string_at l 0)
 unfolding string_at part
-key_part l at h =
-    let n : ℕ = min (get_or l at 0) 13 in
-    ap (λ (a : ℕ). part l a n) (sym (add-zero (at + 1)))
-    ∙ sym (part_part l (at + 1) 13 0 n (omega arith))
-    ∙ key_used (string_at l at) (length_part l (at + 1) 13 (omega arith))
+key_part l h =
+    sym (part_part l 1 13 0 (min (get_or l 0 0) 13) (omega arith)) ∙ key_used (string_at l 0) (length_part l 1 13 (omega arith))
 
 -- the hash of the string that stands in bytes, from where its bytes stand
-pub hash_string : (l : List ℕ) (at : ℕ) → string_hash (string_at l at) ≡ hash (low_first (part l (at + 1) 4)) (low_first (part l (at + 5) 4)) (low_first (part l (at + 9) 4)) (get_or l (at + 13) 0)
+pub hash_string : (l : List ℕ) → string_hash (string_at l 0) ≡ hash (low_first (part l 1 4)) (low_first (part l 5 4)) (low_first (part l 9 4)) (get_or l 13 0)
 unfolding string_at string_hash
-hash_string l at =
-    let a : at + 1 + 0 ≡ at + 1 = omega arith in
-    let b : at + 1 + 4 ≡ at + 5 = omega arith in
-    let c : at + 1 + 8 ≡ at + 9 = omega arith in
-    let d : at + 1 + 12 ≡ at + 13 = omega arith in
-    rw (part_part l (at + 1) 13 0 4 (lit≤ tt), part_part l (at + 1) 13 4 4 (lit≤ tt), part_part l (at + 1) 13 8 4 (lit≤ tt), get_d_part l (at + 1) 13 12 (lit≤ tt), a, b, c, d)
+hash_string l =
+    rw (part_part l 1 13 0 4 (lit≤ tt), part_part l 1 13 4 4 (lit≤ tt), part_part l 1 13 8 4 (lit≤ tt), get_d_part l 1 13 12 (lit≤ tt)) refl
 
 -- sameness as a fact
 pub record Same (a b : LockString) : Type 0 where

@@ -1,12 +1,12 @@
 -- The laws of lock strings in the rows of a table.
 use Prim.Native.Nat.{ℕ, ◌+◌, ◌*◌, ◌≤◌, ◌<◌}
 use native.Mathlib.Bridge.{le_prop}
-use native.Mathlib.Nat.{lt_trans}
+use native.Mathlib.Nat.{lt_trans, add-zero}
 use native.Mathlib.Omega.{arith}
 use mathlib.Core.Path.{◌≡◌, refl, sym, ap, ◌∙◌}
 use mathlib.Core.Bool.{Bool, true, false, not, ◌&&◌}
 use mathlib.Core.List.{List}
-use lib.Dec.{eqb, ltb}
+use lib.Dec.{eqb, ltb, lit≤}
 use lib.ListN.{get_or}
 use borrow.Author.Tests.{ltb-true, ltb-false, not-true}
 use Rattle.rows.proofs.BoolLaws.{by_test, by_eq, both, refuted, and_left, and_right}
@@ -14,7 +14,7 @@ use Rattle.rows.proofs.IndexLaws.{all_at, all_from, none_at, none_from}
 use Rattle.rows.proofs.MarkLaws.{Marked, unmarked_new}
 use Rattle.rows.proofs.RowLaws.{head_part}
 use Rattle.rows.specs.Marks.{marked}
-use Rattle.rows.specs.Rows.{row}
+use Rattle.rows.specs.Rows.{row, part}
 use Rattle.rows.specs.Words.{all, any}
 use Rattle.terms.proofs.StringLaws.{string_inside, same_normal, same_string_refl, same_string_right, same_string_sym, same_string_trans}
 use Rattle.terms.specs.declared.table.Shape.{Shape}
@@ -33,9 +33,12 @@ module _ (shape : Shape) (t : List ℕ) (i : ℕ) where
   unfolding row_in row_free is_free
   free_at_lem = ap (λ (b : ℕ). eqb b shape.free) (sym (head_part t (shape.width * i) shape.width (omega (arith, shape.room))))
 
-  pub string_at_lem : string_at t (shape.width * i + shape.string) ≡ row_string shape t i
+  pub string_in_row : string_at (part t (shape.width * i + shape.string) 14) 0 ≡ row_string shape t i
   unfolding row_in row_string string_in
-  string_at_lem = sym (string_inside t (shape.width * i) shape.width shape.string shape.room)
+  string_in_row =
+      string_inside t (shape.width * i + shape.string) 14 0 (lit≤ tt)
+      ∙ ap (string_at t) (add-zero (shape.width * i + shape.string))
+      ∙ sym (string_inside t (shape.width * i) shape.width shape.string shape.room)
 
 -- a row that holds the length and the bytes of s holds s
 pub key_held : (shape : Shape) (t : List ℕ) (s : LockString) → row_has_key shape t s.len (key s) ≡ row_holds shape t s

@@ -129,25 +129,23 @@ pub fn put_string(bytes: &mut [u8], at: usize, s: LockString)
     rows::put(bytes, at + 1, &s.bytes);
 }
 
-// The bytes of the string that stands at `at`, as many as its length says, where they stand.
+// Of a string that stands in fourteen bytes, its length first: its bytes, as many as its length says, where they stand.
 #[tactic(auto, using(crate::proofs::StringLaws::key_part))]
-fn key_at(bytes: &[u8], at: usize) -> &[u8]
-    requires { at + 14 ≤ length bytes.now }
-    ensures { result.now ≡ key (string_at bytes.now at) }
+fn key_in(string: &[u8; 14]) -> &[u8]
+    ensures { result.now ≡ key (string_at string.now 0) }
 {
-    rows::part(bytes, at + 1, used(bytes[at]))
+    rows::part(string, 1, used(string[0]))
 }
 
-// The hash of the string that stands at `at`: of its thirteen bytes, those after its length too.
+// Its hash: of its thirteen bytes, those after its length too.
 #[tactic(auto, using(crate::proofs::StringLaws::hash_string))]
-fn hash_at(bytes: &[u8], at: usize) -> usize
-    requires { at + 14 ≤ length bytes.now }
-    ensures { (result ≡ string_hash (string_at bytes.now at)) × (result < 1024) }
+fn hash_in(string: &[u8; 14]) -> usize
+    ensures { (result ≡ string_hash (string_at string.now 0)) × (result < 1024) }
 {
-    let a = u32::low_first_at(bytes, at + 1);
-    let b = u32::low_first_at(bytes, at + 5);
-    let c = u32::low_first_at(bytes, at + 9);
-    rows::marks::hash(a, b, c, u32::from(bytes[at + 13]))
+    let a = u32::low_first_at(string, 1);
+    let b = u32::low_first_at(string, 5);
+    let c = u32::low_first_at(string, 9);
+    rows::marks::hash(a, b, c, u32::from(string[13]))
 }
 
 // The string with zeros after its length.

@@ -2,8 +2,6 @@
 ghost use Rattle.std.specs.Prelude.{◌≡◌};
 ghost use Rattle.terms.specs.Shortcuts.{name_solid, pattern_of, matches as is_match};
 
-use rows::LowFirst;
-
 // In each byte all bits but the one by which a space differs from a zero.
 const SOLID: u64 = 0xDFDF_DFDF_DFDF_DFDF;
 
@@ -12,7 +10,7 @@ const SOLID: u64 = 0xDFDF_DFDF_DFDF_DFDF;
 pub fn solid_of(name: &[u8; 8]) -> u64
     ensures { result ≡ name_solid name.now }
 {
-    u64::low_first_at(name, 0) & SOLID
+    u64::from_le_bytes(*name) & SOLID
 }
 
 // What a name is compared by: the number in its normal form, and the bits of another name that are to be those of that number.
@@ -28,7 +26,7 @@ pub struct Pattern {
 pub fn pattern_of(name: &[u8; 8]) -> Pattern
     ensures { result ≡ pattern_of name.now }
 {
-    let all = u64::low_first_at(name, 0);
+    let all = u64::from_le_bytes(*name);
     let solid = all & SOLID;
     if solid == 0 {
         return Pattern {
@@ -49,5 +47,5 @@ pub fn pattern_of(name: &[u8; 8]) -> Pattern
 pub fn matches(name: &[u8; 8], pattern: Pattern) -> bool
     ensures { result ≡ is_match name.now pattern }
 {
-    u64::low_first_at(name, 0) & pattern.mask == pattern.word
+    u64::from_le_bytes(*name) & pattern.mask == pattern.word
 }

@@ -52,25 +52,26 @@ impl Table<'_> {
         None
     }
 
-    // Where the string of row i stands.
-    fn string_at(&self, i: usize) -> usize
+    // The string of row i where it stands, its length first.
+    #[tactic(auto, using(crate::proofs::TableLaws::string_in_row))]
+    fn string_of(&self, i: usize) -> &[u8; 14]
         requires { i < self.now.count }
-        ensures at_string { result ≡ self.now.shape.width * i + self.now.shape.string }
-        ensures in_bounds { result + 14 ≤ length self.now.bytes.now }
+        ensures { string_at result.now 0 ≡ row_string self.now.shape self.now.bytes.now i }
     {
-        self.shape.width * i + self.shape.string
+        rows::array_in(self.bytes, self.shape.width * i + self.shape.string)
     }
 
     // Row i is used and holds the string of this length and these bytes. They are compared where they stand.
-    #[tactic(auto, using(crate::proofs::TableLaws::string_at_lem), unfolding(crate::specs::Shortcuts::row_has_key, crate::specs::Strings::string_at))]
+    #[tactic(auto, unfolding(crate::specs::Shortcuts::row_has_key, crate::specs::Strings::string_at))]
     fn holds(&self, i: usize, len: u8, own: &[u8]) -> bool
         requires { i < self.now.count }
         ensures { result ≡ row_has_key self.now.shape self.now.bytes.now len own.now i }
     {
-        let at = self.string_at(i);
-        !self.is_free(i)
-            && self.bytes[at] == len
-            && rows::is_same(crate::key_at(self.bytes, at), own)
+        if self.is_free(i) {
+            return false;
+        }
+        let string = self.string_of(i);
+        string[0] == len && rows::is_same(crate::key_in(string), own)
     }
 
     // The first of n rows that holds it.
@@ -96,7 +97,7 @@ impl Table<'_> {
     }
 
     // Row i is free, or no earlier row holds its string: where its hash was not seen in an earlier row, none does.
-    #[tactic(auto, using(crate::proofs::TableLaws::string_at_lem, crate::proofs::TableLaws::key_held, rows::proofs::OutcomeLaws::finds_some), unfolding(crate::specs::Tables::row_alone, crate::specs::Strings::string_at))]
+    #[tactic(auto, using(crate::proofs::StringLaws::len_first, crate::proofs::TableLaws::key_held, rows::proofs::OutcomeLaws::finds_some), unfolding(crate::specs::Tables::row_alone))]
     fn row_alone(&self, i: usize, seen: bool) -> bool
         requires in_bounds { i < self.now.count }
         requires unseen { seen ≡ false → row_alone self.now.shape self.now.bytes.now i ≡ true }
@@ -105,18 +106,16 @@ impl Table<'_> {
         if !seen || self.is_free(i) {
             return true;
         }
-        let at = self.string_at(i);
-        self.find_key(i, self.bytes[at], crate::key_at(self.bytes, at))
-            .is_none()
+        let string = self.string_of(i);
+        self.find_key(i, string[0], crate::key_in(string)).is_none()
     }
 
     // The hash of the string of row i.
-    #[tactic(auto, using(crate::proofs::TableLaws::string_at_lem))]
     fn hash_of(&self, i: usize) -> usize
         requires { i < self.now.count }
         ensures { (result ≡ string_hash (row_string self.now.shape self.now.bytes.now i)) × (result < 1024) }
     {
-        crate::hash_at(self.bytes, self.string_at(i))
+        crate::hash_in(self.string_of(i))
     }
 
     // No two rows hold the same string, where zeros stand after each. The hash of each row is marked, and only a row whose

@@ -44,7 +44,8 @@ pub fn roll_call(row: &[Station]) -> Option<u64>
     Some(word)
 }
 
-// 1 where number n is logged in.
+// 1 where number n is logged in. The length stands in contracts, here and in fresh, and in no array's type: the records are a slice
+// of what the master is lent, by & or by &mut, and their length is tested once for a frame.
 #[tactic(auto, using(rows::proofs::RowLaws::head_part), unfolding(crate::specs::Records::flag, crate::specs::Records::station_of))]
 fn bit_of(records: &[u8], n: usize) -> u64
     requires { (length records.now ≡ 18 * numbers) × (n < numbers) }

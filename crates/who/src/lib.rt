@@ -51,7 +51,8 @@ fn bytes_of(s: Station) -> [u8; 18]
     r
 }
 
-// The station of record n.
+// The station of record n. The bound on n stands here, in put_station and in log_out: it is over slices that are lent by & or by
+// &mut, so a type that keeps it would be two.
 #[tactic(auto, using(rows::proofs::RowLaws::head_part, rows::proofs::RowLaws::get_d_part, rows::proofs::RowLaws::part_part), unfolding(crate::specs::Records::station_of))]
 pub fn station_at(records: &[u8], n: usize) -> Station
     requires { 18 * n + 18 ≤ length records.now }
