@@ -4,7 +4,6 @@ ghost use Rattle.frames.specs.Table.{LOGIN};
 ghost use Rattle.frames.specs.Writing.{code_of};
 ghost use Rattle.rows.specs.Words.{same, zeros};
 ghost use Rattle.site.specs.Layout.{partitions, partition_password};
-ghost use Rattle.site.specs.Rules.{good_site};
 ghost use Rattle.site.specs.Places.{placed_in};
 ghost use Rattle.who.specs.Good.{good_records, numbers};
 ghost use Rattle.master.specs.Tables.{good_tables};
@@ -15,23 +14,22 @@ ghost use Rattle.master.specs.Inner.{LogsIn, LogsOut, LogsOldOut, Performs};
 use crate::Answer;
 use frames::{Command, Request};
 use rows::LowFirst;
-use site::Refused;
+use site::{Refused, Site};
 use terms::{Address, Partition, Status, Volume};
 use who::Station;
 
 // Read, write: the place.
-fn place(site: &[u8], address: Address) -> Result<Answer, Refused>
-    requires { good_site site.now ≡ true }
-    ensures { told result ≡ place_told (placed_in site.now address) }
+fn place(site: &Site, address: Address) -> Result<Answer, Refused>
+    ensures { told result ≡ place_told (placed_in site.now.file.now address) }
 {
-    let place = site::place_in(site, address)?;
+    let place = site.place_in(address)?;
     Ok(Answer::At(place))
 }
 
 // Login: the lowest free number is logged in.
-fn log_in(q: Request, product: u8, site: &[u8], records: &mut [u8]) -> Answer
-    requires { (good_records records.old ≡ true) × (good_site site.now ≡ true) }
-    ensures { LogsIn q product site.now records.old result records.new }
+fn log_in(q: Request, product: u8, site: &Site, records: &mut [u8]) -> Answer
+    requires { good_records records.old ≡ true }
+    ensures { LogsIn q product site.now.file.now records.old result records.new }
 {
     let sent = u32::low_first_at(&q.serial, 0);
     let Some(number) = who::lowest_number(records) else {
@@ -41,7 +39,7 @@ fn log_in(q: Request, product: u8, site: &[u8], records: &mut [u8]) -> Answer
             serial: sent,
         };
     };
-    let found = site::has_user(site, q.name, q.password);
+    let found = site.has_user(q.name, q.password);
     let station = Station {
         logged: true,
         misses: 0,
@@ -72,25 +70,24 @@ fn denied() -> Answer
 }
 
 // The sent password is six zeros, or that of partition row i.
-fn password_fits(site: &[u8], i: usize, password: [u8; 6]) -> bool
-    requires { (good_site site.now ≡ true) × (i < partitions site.now) }
-    ensures { result ≡ zeros password || same (partition_password site.now i) password }
+fn password_fits(site: &Site, i: usize, password: [u8; 6]) -> bool
+    requires { i < partitions site.now.file.now }
+    ensures { result ≡ zeros password || same (partition_password site.now.file.now i) password }
 {
-    rows::is_zero(&password) || site::partition_password_is(site, i, password)
+    rows::is_zero(&password) || site.partition_password_is(i, password)
 }
 
 // Assign: the row with that name, if the password fits.
-fn assign(q: Request, site: &[u8]) -> Answer
-    requires { good_site site.now ≡ true }
-    ensures { told (Ok result) ≡ assign_answer q site.now }
+fn assign(q: Request, site: &Site) -> Answer
+    ensures { told (Ok result) ≡ assign_answer q site.now.file.now }
 {
-    let Some(i) = site::partition_named(site, q.name) else {
+    let Some(i) = site.partition_named(q.name) else {
         return denied();
     };
     if !password_fits(site, i, q.password) {
         return denied();
     }
-    let row = site::partition_row(site, i);
+    let row = site.partition_row(i);
     Answer::Assigned {
         size: row.size,
         partition: row.partition,
@@ -127,13 +124,13 @@ fn log_old_out(serial: [u8; 4], locks: &mut [u8], records: &mut [u8])
 pub fn perform(
     number: u8,
     q: Request,
-    site: &[u8],
+    site: &Site,
     locks: &mut [u8],
     records: &mut [u8],
 ) -> Result<Answer, Refused>
-    requires records_value { (good_tables locks.old records.old ≡ true) × (good_site site.now ≡ true) }
+    requires records_value { good_tables locks.old records.old ≡ true }
     requires number_lt_numbers { eqb (code_of q.command) LOGIN ≡ false → number < numbers }
-    ensures { Performs q number site.now locks.old records.old result locks.new records.new }
+    ensures { Performs q number site.now.file.now locks.old records.old result locks.new records.new }
 {
     match q.command {
         Command::Acknowledge => Ok(Answer::Nothing),

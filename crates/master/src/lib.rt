@@ -11,7 +11,6 @@ mod poll;
 
 ghost use Rattle.std.specs.Prelude.{◌≡◌, true};
 ghost use Rattle.rows.specs.Outcomes.{Gives};
-ghost use Rattle.site.specs.Rules.{good_site};
 ghost use Rattle.master.specs.Tables.{good_tables};
 ghost use Rattle.master.specs.Frames.{Serves};
 ghost use Rattle.master.specs.Fresh.{Freshens};
@@ -21,7 +20,7 @@ ghost use Rattle.master.specs.RowPolls.{RowPolls};
 
 use framing::Heading;
 use refusals::Refusal;
-use site::Refused;
+use site::{Refused, Site};
 use terms::{Partition, Place, Status, Volume};
 use who::Station;
 
@@ -82,13 +81,12 @@ pub fn tables_good(locks: &[u8], records: &[u8]) -> bool
 pub fn act(
     number: u32,
     frame: &[u8],
-    site: &[u8],
+    site: &Site,
     locks: &mut [u8],
     records: &mut [u8],
 ) -> Result<Answer, Refused>
-    requires records_value { good_tables locks.old records.old ≡ true }
-    requires site_value { good_site site.now ≡ true }
-    ensures { Serves number frame.now site.now locks.old records.old result locks.new records.new }
+    requires { good_tables locks.old records.old ≡ true }
+    ensures { Serves number frame.now site.now.file.now locks.old records.old result locks.new records.new }
 {
     let request = checks::request_at(number, frame, records)?;
     commands::perform(number as u8, request, site, locks, records)
@@ -107,8 +105,8 @@ pub fn serve(
     if !tables_good(locks, records) {
         return Err(Refused::By(Refusal::BadTables));
     }
-    site::check(site)?;
-    act(number, frame, site, locks, records)
+    let site = Site::of(site)?;
+    act(number, frame, &site, locks, records)
 }
 
 // Is the next poll turn of the number due: 11, 2, 5, or due, and no logout.

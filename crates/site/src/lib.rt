@@ -1,5 +1,6 @@
 // The site file: its check, what is looked up in it, and the place of an address. The file is lent and never copied.
-// `check`, `is_good` and `place` take any bytes. The others are inner halves: they rely on what `check` gave for the file.
+// `check`, `is_good`, `place` and `Site::of` take any bytes; `earlier_row` takes the fault that `check` gave for the file. The rest is
+// looked up in a `Site`, a file that keeps every rule.
 #![tactic(auto)]
 
 mod hashes;
@@ -10,12 +11,12 @@ mod rules;
 mod search;
 mod sizes;
 
-ghost use Rattle.std.specs.Prelude.{◌≡◌, true, ◌<◌, Err};
+ghost use Rattle.std.specs.Prelude.{◌≡◌, true, ◌<◌, Err, MatchResult};
 ghost use Rattle.rows.specs.Words.{same};
 ghost use Rattle.rows.specs.Outcomes.{Gives, Finds};
 ghost use Rattle.refusals.specs.Refusals.{number};
 ghost use Rattle.refusals.specs.Outcomes.{GivesUnless};
-ghost use Rattle.site.specs.declared.Refused.TheVariants.{Site, By};
+ghost use Rattle.site.specs.declared.Refused.TheVariants as refused;
 ghost use Rattle.site.specs.Layout.{partitions, partition_row, partition_password};
 ghost use Rattle.site.specs.Rules.{good_site, ranged};
 ghost use Rattle.site.specs.Faults.{checked, fault_row, earlier_row};
@@ -93,7 +94,7 @@ impl fmt::Display for Refused {
 impl Error for Refused {}
 
 impl From<Fault> for Refused {
-    ghost from_gives = { λ x e. e ≡ Site x };
+    ghost from_gives = { λ x e. e ≡ refused.Site x };
 
     fn from(fault: Fault) -> Refused {
         Refused::Site(fault)
@@ -101,7 +102,7 @@ impl From<Fault> for Refused {
 }
 
 impl From<Refusal> for Refused {
-    ghost from_gives = { λ r e. e ≡ By r };
+    ghost from_gives = { λ r e. e ≡ refused.By r };
 
     fn from(refusal: Refusal) -> Refused {
         Refused::By(refusal)
@@ -145,58 +146,88 @@ pub fn earlier_row(file: &[u8], fault: Fault) -> Option<usize>
     }
 }
 
-// A user row has this name and this password.
-pub fn has_user(file: &[u8], name: [u8; 8], password: [u8; 6]) -> bool
-    requires { good_site file.now ≡ true }
-    ensures { Gives (has_user file.now name password) result }
-{
-    let users = Rows::users(file);
-    match users.find_name(users.count, &name) {
-        Some(i) => users.password_is(i, &password),
-        None => false,
+// A site file that keeps every rule, which is what looking things up in it relies on.
+#[derive(Clone, Copy)]
+pub struct Site<'a> {
+    pub file: &'a [u8],
+    ghost good: { good_site file.now ≡ true },
+}
+
+impl<'a> Site<'a> {
+    // The site of a file that keeps every rule, or the file's first fault.
+    pub fn of(file: &'a [u8]) -> Result<Site<'a>, Fault>
+        ensures { MatchResult result (λ site. site.file.now ≡ file.now) (λ fault. checked file.now ≡ Err fault) }
+    {
+        check(file)?;
+        Ok(Site { file })
     }
-}
 
-// The index of the partition row with this name.
-pub fn partition_named(file: &[u8], name: [u8; 8]) -> Option<usize>
-    requires { good_site file.now ≡ true }
-    ensures { Finds (partitions file.now) (index_of_name file.now name) result }
-{
-    let partitions = Partitions::of(file);
-    partitions.rows().find_name(partitions.count, &name)
-}
+    // Its partition rows.
+    fn partitions(&self) -> Partitions<'a>
+        ensures { result.file.now ≡ self.now.file.now }
+    {
+        Partitions::of(self.file)
+    }
 
-// The index of the partition row with this volume and number.
-pub fn partition_numbered(file: &[u8], volume: Volume, partition: Partition) -> Option<usize>
-    requires { good_site file.now ≡ true }
-    ensures { Finds (partitions file.now) (index_of_number file.now volume partition) result }
-{
-    let partitions = Partitions::of(file);
-    partitions.find_number(partitions.count, volume, partition)
-}
+    // A user row has this name and this password.
+    pub fn has_user(&self, name: [u8; 8], password: [u8; 6]) -> bool
+        ensures { Gives (has_user self.now.file.now name password) result }
+    {
+        let users = Rows::users(self.file);
+        match users.find_name(users.count, &name) {
+            Some(i) => users.password_is(i, &password),
+            None => false,
+        }
+    }
 
-// How many partitions there are.
-pub fn partition_count(file: &[u8]) -> usize
-    requires { good_site file.now ≡ true }
-    ensures { Gives (partitions file.now) result }
-{
-    Partitions::of(file).count
-}
+    // The index of the partition row with this name.
+    pub fn partition_named(&self, name: [u8; 8]) -> Option<usize>
+        ensures { Finds (partitions self.now.file.now) (index_of_name self.now.file.now name) result }
+    {
+        let partitions = self.partitions();
+        partitions.rows().find_name(partitions.count, &name)
+    }
 
-// Partition row i.
-pub fn partition_row(file: &[u8], i: usize) -> PartitionRow
-    requires { (good_site file.now ≡ true) × (i < partitions file.now) }
-    ensures { Gives (partition_row file.now i) result }
-{
-    Partitions::of(file).row(i)
-}
+    // The index of the partition row with this volume and number.
+    pub fn partition_numbered(&self, volume: Volume, partition: Partition) -> Option<usize>
+        ensures { Finds (partitions self.now.file.now) (index_of_number self.now.file.now volume partition) result }
+    {
+        let partitions = self.partitions();
+        partitions.find_number(partitions.count, volume, partition)
+    }
 
-// Partition row i has this password.
-pub fn partition_password_is(file: &[u8], i: usize, password: [u8; 6]) -> bool
-    requires { (good_site file.now ≡ true) × (i < partitions file.now) }
-    ensures { Gives (same (partition_password file.now i) password) result }
-{
-    Partitions::of(file).rows().password_is(i, &password)
+    // How many partitions there are.
+    pub fn partition_count(&self) -> usize
+        ensures { Gives (partitions self.now.file.now) result }
+    {
+        self.partitions().count
+    }
+
+    // Partition row i.
+    pub fn partition_row(&self, i: usize) -> PartitionRow
+        requires { i < partitions self.now.file.now }
+        ensures { Gives (partition_row self.now.file.now i) result }
+    {
+        self.partitions().row(i)
+    }
+
+    // Partition row i has this password.
+    pub fn partition_password_is(&self, i: usize, password: [u8; 6]) -> bool
+        requires { i < partitions self.now.file.now }
+        ensures { Gives (same (partition_password self.now.file.now i) password) result }
+    {
+        self.partitions().rows().password_is(i, &password)
+    }
+
+    // The place of an address; 8 or 9 where it has none.
+    pub fn place_in(&self, address: Address) -> Result<Place, Refusal>
+        ensures { GivesUnless (placed_in self.now.file.now address).refusal (placed_in self.now.file.now address).place result }
+    {
+        match self.partition_numbered(address.volume, address.partition) {
+            Some(i) => place_on(self.partition_row(i), address),
+            None => Err(Refusal::NoSuchPartition),
+        }
+    }
 }
 
 // The place on this row; 9 where the address lies outside it.
@@ -215,21 +246,9 @@ fn place_on(row: PartitionRow, address: Address) -> Result<Place, Refusal>
     })
 }
 
-// The place of an address in a good file; 8 or 9 where it has none.
-pub fn place_in(file: &[u8], address: Address) -> Result<Place, Refusal>
-    requires { good_site file.now ≡ true }
-    ensures { GivesUnless (placed_in file.now address).refusal (placed_in file.now address).place result }
-{
-    match partition_numbered(file, address.volume, address.partition) {
-        Some(i) => place_on(partition_row(file, i), address),
-        None => Err(Refusal::NoSuchPartition),
-    }
-}
-
 // The place of an address in any file; the file's first fault, 10, or 8 or 9 where it has none.
 pub fn place(file: &[u8], address: Address) -> Result<Place, Refused>
     ensures { Gives (placed_by file.now address) (located result) }
 {
-    check(file)?;
-    Ok(place_in(file, address)?)
+    Ok(Site::of(file)?.place_in(address)?)
 }

@@ -20,22 +20,22 @@ returns-in_err-request c =
     let a = c.args in
     let first = c.in_err-request.ensures in
     let p = err_from_is_err_and c.from_residual.result c.from_residual.ensures.1 in
-    rw (p.1, p.2) (serves_refused _ _ _ _ _ _ (stops _ _ _ _ _ c.requires.records_value c.requires.site_value (λ z. number_never_0 _ (sym first ∙ z)) ∙ first) (λ z. omega (arith, z, first, tests_low a.number a.frame.now a.records.now 0 (omega arith))))
+    rw (p.1, p.2) (serves_refused _ _ _ _ _ _ (stops _ _ _ _ _ c.requires a.site.now.good (λ z. number_never_0 _ (sym first ∙ z)) ∙ first) (λ z. omega (arith, z, first, tests_low a.number a.frame.now a.records.now 0 (omega arith))))
 
 pub overflow_cast-number : goal.overflow_cast-number
-overflow_cast-number c = record { fits = number_small c.args.number c.args.frame.now c.args.records.now (sized c.args.locks.now c.args.records.now c.requires.records_value) (passed _ _ _ c.in_ok-request.ensures.0) }
+overflow_cast-number c = record { fits = number_small c.args.number c.args.frame.now c.args.records.now (sized c.args.locks.now c.args.records.now c.requires) (passed _ _ _ c.in_ok-request.ensures.0) }
 
 pub perform-requires : goal.perform-requires
 perform-requires c = let a = c.args in
     let p = passed a.number a.frame.now a.records.now c.in_ok-request.ensures.0 in
-    let long = sized a.locks.now a.records.now c.requires.records_value in
+    let long = sized a.locks.now a.records.now c.requires in
     let read = c.in_ok-request.ensures.1 in record {
-      records_value = (c.requires.records_value, c.requires.site_value);
+      records_value = c.requires;
       number_lt_numbers = λ h. logged_below a.records.now long a.number (seat_in a.number a.frame.now a.records.now long p
           (sym (ap (λ (k : ℕ). eqb k LOGIN) (ap (λ (q : Request). code_of q.command) read ∙ code_kept a.frame.now p.reads)) ∙ h));
     }
 
 pub returns : goal.returns
 returns c = let a = c.args in
-    serves_done a.number a.frame.now a.site.now a.locks.now a.records.now c.requires.records_value c.requires.site_value c.in_ok-request.ensures.0 _ _ _
-    (subst (λ (q : Request). Performs q a.number a.site.now a.locks.now a.records.now c.perform.result c.perform.new.locks c.perform.new.records) c.in_ok-request.ensures.1 c.perform.ensures)
+    serves_done a.number a.frame.now a.site.now.file.now a.locks.now a.records.now c.requires a.site.now.good c.in_ok-request.ensures.0 _ _ _
+    (subst (λ (q : Request). Performs q a.number a.site.now.file.now a.locks.now a.records.now c.perform.result c.perform.new.locks c.perform.new.records) c.in_ok-request.ensures.1 c.perform.ensures)

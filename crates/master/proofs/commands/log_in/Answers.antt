@@ -26,22 +26,22 @@ pub returns-in_default : goal.returns-in_default
 unfolding told login_effect number_given
 returns-in_default c t = let a = c.args in
     let full : length a.q.serial ≡ 4 = search rules in
-    let none : numbers ≤ lowest_number a.records.now = omega (arith, c.in_default.ensures, (good_is a.records.now c.requires.0).sized) in
+    let none : numbers ≤ lowest_number a.records.now = omega (arith, c.in_default.ensures, (good_is a.records.now c.requires).sized) in
     let sent : c.low_first_at-sent.result ≡ low_first a.q.serial = c.low_first_at-sent.ensures ∙ ap low_first (whole a.q.serial full) in
     record { answer = rw (le-ltb _ numbers none, sent); locks = rw (le-ltb _ numbers none); records = rw (le-ltb _ numbers none) }
 
 pub overflow_cast-result : goal.overflow_cast-result
-overflow_cast-result c = record { fits = omega (arith, (good_is c.args.records.now c.requires.0).sized, c.in-Some.ensures.1) }
+overflow_cast-result c = record { fits = omega (arith, (good_is c.args.records.now c.requires).sized, c.in-Some.ensures.1) }
 
 pub put_station-requires : goal.put_station-requires
-put_station-requires c = omega (arith, (good_is c.args.records.now c.requires.0).sized, c.in-Some.ensures.1)
+put_station-requires c = omega (arith, (good_is c.args.records.now c.requires).sized, c.in-Some.ensures.1)
 
 pub returns : goal.returns
 unfolding told login_effect number_given name_found after_login logged_in_as
 returns c t = let a = c.args in
     let full : length a.q.serial ≡ 4 = search rules in
     let at = c.in-Some.ensures in
-    let long = (good_is a.records.now c.requires.0).sized in
+    let long = (good_is a.records.now c.requires).sized in
     let some : lowest_number a.records.now < numbers = omega (arith, at.0, at.1, long) in
     let sent : c.low_first_at-sent.result ≡ low_first a.q.serial = c.low_first_at-sent.ensures ∙ ap low_first (whole a.q.serial full) in
     let first : eqb (lowest_number a.records.now) 0 ≡ false = ne_eqb _ _ (λ (z : lowest_number a.records.now ≡ 0). omega (arith, (lowest_number_is a.records.now long some).0)) in

@@ -8,12 +8,12 @@ use Rattle.master.proofs.commands.perform.Goals as goal
 
 pub log_in-requires : goal.log_in-requires
 log_in-requires c =
-    (rw c.log_old_out.ensures.records (records_good _ _ (old_cleared _ _ _ c.requires.records_value.0).tables), c.requires.records_value.1)
+    rw c.log_old_out.ensures.records (records_good _ _ (old_cleared _ _ _ c.requires.records_value).tables)
 
 pub log_out-requires : goal.log_out-requires
 unfolding code_of
 log_out-requires c =
-    (records_good _ _ c.requires.records_value.0, c.requires.number_lt_numbers (rw c.in-Logout.is))
+    (records_good _ _ c.requires.records_value, c.requires.number_lt_numbers (rw c.in-Logout.is))
 
 pub returns-in-Acknowledge : goal.returns-in-Acknowledge
 unfolding told request_effect effect_of
