@@ -81,6 +81,7 @@ pub fn find_user(users: &[u8], name: &[u8; 8], password: &[u8; 6]) -> Option<usi
     None
 }
 
+// An index stands in each contract with its bound: it is what the caller chooses.
 impl<'a> Tables<'a> {
     // Every table has whole rows, and no more than its limit.
     pub fn are_whole(&self) -> bool

@@ -70,7 +70,8 @@ pub fn or_tell<T: Drop>(rt: &impl Errors, what: &[u8], attempt: io::Result<T>) -
     attempt.ok()
 }
 
-// Reads once, behind what is kept, where there is room, and answers where what was read then ends.
+// Reads once, behind what is kept, where there is room, and answers where what was read then ends. How much is kept stays beside the
+// buffer: the contract says of both what stays.
 pub fn read_more<R: Read>(reader: &mut R, input: &mut [u8], kept: usize) -> io::Result<usize>
     requires { kept < length input.old }
     ensures ends { IfOk result (λ end. (kept ≤ end) × (end ≤ length input.old)) }

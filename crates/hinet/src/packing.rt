@@ -76,7 +76,8 @@ impl Packed for Refusal {
     }
 }
 
-// 1 range, 2 repeated name, 3 repeated volume and number, 4 overlap.
+// 1 range, 2 repeated name, 3 repeated volume and number, 4 overlap. The numbers are the C header's and the enum is site's, so this
+// is no From.
 #[tactic(auto, unfolding(site::specs::Faults::breach_number))]
 fn breach_number(breach: Breach) -> u8
     ensures { result ≡ number_of breach }

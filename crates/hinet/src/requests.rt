@@ -11,7 +11,8 @@ use crate::given;
 use crate::packing::{Packed, Written};
 use frames::{Code, Command, Request};
 
-// Writes the frame of a request. No frame is longer than a byte says.
+// Writes the frame of a request. No frame is longer than a byte says. A match here and in two more entries, and no `map`: the cast
+// in its closure would ask for a clause of its own.
 fn compose(q: Request, buffer: &mut [u8]) -> u64
     ensures { Composes q buffer.old result buffer.new }
 {
@@ -35,7 +36,7 @@ pub fn hinet_write_acknowledge(buffer: &mut [u8]) -> u64
     write_plain(Command::Acknowledge, buffer)
 }
 
-// 11: read the sector at an address.
+// 11: read the sector at an address. This and the next are two names of the C interface; what they share is write_plain.
 #[tactic(auto, unfolding(crate::specs::FrameEntries::disk_of))]
 pub fn hinet_write_read(
     src: u32,

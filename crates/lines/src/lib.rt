@@ -27,7 +27,7 @@ impl Model for Line {
     ghost view = { λ line. line.text.items };
 }
 
-// The digit of a value below 16, with capital letters.
+// The digit of a value below 16, with capital letters. By hand, since the text is bytes and its definition is over one digit.
 #[tactic(auto, unfolding(crate::specs::Line::digit))]
 fn digit(d: u8) -> u8
     requires { d < 16 }
@@ -157,7 +157,7 @@ impl Line {
     }
 }
 
-// The refusal of an answer, 0 for none.
+// The refusal of an answer, 0 for none: that is what the column of a line shows.
 #[tactic(auto, unfolding(master::specs::Answers::told, master::specs::Answers::refusal_number, master::specs::Answers::fault_told))]
 fn refusal_of(answer: Result<Answer, Refused>) -> u8
     ensures { result ≡ refusal_number (told answer) }
@@ -168,7 +168,8 @@ fn refusal_of(answer: Result<Answer, Refused>) -> u8
     }
 }
 
-// One line of a session, put down at `at`. Its end is answered.
+// One line of a session, put down at `at`. Its end is answered. The place stays beside the buffer, since the definition `Writes`
+// that docs/PROMISES.md names speaks of both.
 #[tactic(auto, using(crate::proofs::LineLaws::lengths), unfolding(crate::specs::Line::line_text))]
 pub fn write_line(
     buffer: &mut [u8],

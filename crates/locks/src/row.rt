@@ -19,7 +19,7 @@ pub fn owner_of(table: &[u8], i: usize) -> u8
     table[ROW * i]
 }
 
-// The rows as they hold their strings.
+// The rows as they hold their strings. A station has the same over a shape of its own: the shape is all that it says.
 pub fn strings(table: &[u8]) -> Table<'_>
     ensures bytes { result.bytes.now ≡ table.now }
     ensures shape { result.shape ≡ lock_rows }

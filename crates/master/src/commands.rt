@@ -105,7 +105,8 @@ pub fn log_out(number: u8, locks: &mut [u8], records: &mut [u8])
     who::log_out(records, number as usize);
 }
 
-// Before a login: every number with its serial is logged out, but for serial 00 00 00 00. The records are walked once.
+// Before a login: every number with its serial is logged out, but for serial 00 00 00 00. The records are walked once. That the tables
+// are good is asked here and no type says it: a command leaves other tables, and `frame_keeps` says of all commands that these are good.
 fn log_old_out(serial: [u8; 4], locks: &mut [u8], records: &mut [u8])
     requires { good_tables locks.old records.old ≡ true }
     ensures { LogsOldOut serial locks.old records.old locks.new records.new }

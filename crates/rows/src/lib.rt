@@ -170,7 +170,8 @@ fn ends_same(a: &[u8], b: &[u8]) -> bool
     u64::low_first_at(a, last) == u64::low_first_at(b, last)
 }
 
-// Two slices are as long as each other and the same byte by byte.
+// Two slices are as long as each other and the same byte by byte. No `==`: the edits same_by_both_fronts and same_by_first_byte say
+// their wrong thing of these bodies.
 pub fn is_same(a: &[u8], b: &[u8]) -> bool
     ensures { Gives (same a.now b.now) result }
 {

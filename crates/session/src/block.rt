@@ -63,7 +63,8 @@ impl<'a> Session<'a> {
         end
     }
 
-    // Plays the whole records of the input. There is room for their lines: a record has two bytes or more.
+    // Plays the whole records of the input. There is room for their lines: a record has two bytes or more. The loop counts nothing: a
+    // record is as long as it says.
     pub fn play(&mut self, input: &[u8], output: &mut [u8]) -> Played
         requires input_in_bounds { 48 * length input.now ≤ length output.old }
         requires input_bound { self.old.index + length input.now < 2 ^ 64 }

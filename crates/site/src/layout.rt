@@ -38,7 +38,8 @@ pub struct Partitions<'a> {
     ghost within: { from + 24 * count ≤ length file.now },
 }
 
-// How many users the header says there are.
+// How many users the header says there are. That there is a header is asked of three functions and no type says it: where it is not
+// asked, the length of the whole file is known.
 #[tactic(auto, unfolding(crate::specs::Layout::users))]
 pub fn user_count(file: &[u8]) -> usize
     requires { 8 ≤ length file.now }
@@ -64,6 +65,7 @@ pub fn partitions_from(file: &[u8]) -> usize
     USERS_FROM + USER * user_count(file)
 }
 
+// An index stands in each contract with its bound: it is what the caller chooses.
 impl<'a> Rows<'a> {
     // The user rows of a file that is as long as its header says.
     pub fn users(file: &'a [u8]) -> Rows<'a>

@@ -73,7 +73,7 @@ impl Header {
         Count(usize::from(self.users), "user")
     }
 
-    // How many partition rows there are.
+    // How many partition rows there are. Beside user_count: the field and the word are all that they say.
     fn partition_count(self) -> Count<'static> {
         Count(usize::from(self.partitions), "partition")
     }

@@ -103,7 +103,7 @@ fn is_free(records: &[u8], n: usize) -> bool
     1 <= n && !is_in(records, n)
 }
 
-// The lowest free number from 1 on.
+// The lowest free number from 1 on. A `for`, as every search here and below: with `(0..n).find(..)` what it answers stayed open.
 #[tactic(auto, using(rows::proofs::IndexLaws::search_on, rows::proofs::IndexLaws::search_hit, rows::proofs::IndexLaws::search_ends), unfolding(rows::specs::Words::any, crate::specs::Logins::lowest_number))]
 pub fn lowest_number(records: &[u8]) -> Option<usize>
     ensures { Finds (record_count records.now) (lowest_number records.now) result }
