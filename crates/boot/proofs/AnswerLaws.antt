@@ -1,11 +1,16 @@
 -- The laws of specs/Answers.antt: a case for each way in which a login is answered.
 use Rattle.std.specs.Prelude.{Ok, Err}
 use Prim.Native.Nat.{ℕ, ◌≤◌, ◌<◌}
-use mathlib.Core.Path.{◌≡◌, ap, ◌∙◌}
+use native.Mathlib.Omega.{arith}
+use mathlib.Core.Path.{◌≡◌, sym, ap, ◌∙◌}
 use mathlib.Core.Bool.{true, false}
-use mathlib.Core.List.{List}
-use lib.ListN.{length}
-use borrow.Author.Tests.{lt-ltb, le-ltb}
+use mathlib.Core.List.{List, ◌++◌, append_assoc}
+use lib.ListN.{length, take, drop, take-append-drop}
+use lib.Seq.{length-take-le}
+use Rattle.std.proofs.lemmas.List.{drop-append-le}
+use lib.Dec.{ltb}
+use borrow.Author.Tests.{lt-ltb, le-ltb, ltb-true}
+use Rattle.rows.specs.Rows.{over}
 use Rattle.rows.proofs.BoolLaws.{by_test}
 use Rattle.rows.proofs.IndexLaws.{found_if, missing_if}
 use Rattle.refusals.specs.declared.Refusal.TheVariants.{BadBootTables, ShortBuffer}
@@ -17,6 +22,13 @@ use Rattle.boot.specs.Block.{boot_block, configuration_of}
 use Rattle.boot.specs.Answers.{Honors, booted, boot_refusal, written, boot_answer, block_after, Boots}
 use Rattle.boot.specs.Inner.{sent_flag, sent_block, Sends, Answers}
 use Rattle.boot.proofs.ChoiceLaws.{le_of_eq, chosen_unknown, chosen_known, drives_unknown, drives_known, chosen_flag}
+
+-- at most 194 bytes p over the first 194 bytes of b, with the rest of b behind, are p over b
+block_over : (p b : List ℕ) {q : List ℕ} → length p ≤ 194 → 194 ≤ length b → q ≡ over p (take 194 b) → q ++ drop 194 b ≡ over p b
+block_over p b short g e =
+    let rest : drop (length p) b ≡ drop (length p) (take 194 b) ++ drop 194 b =
+    ap (λ (m : List ℕ). drop (length p) m) (sym (take-append-drop 194 b)) ∙ drop-append-le (length p) (take 194 b) (drop 194 b) (omega (arith, length-take-le 194 b g)) in
+    ap (λ (m : List ℕ). m ++ drop 194 b) e ∙ append_assoc p _ _ ∙ ap (λ (m : List ℕ). p ++ m) (sym rest)
 
 -- what is sent to a name and password that are unknown, and to a user
 module _ (x : Tables) (m p : ℕ) (name password b : List ℕ) (io : ℕ) {r : ℕ} {b' : List ℕ} where
@@ -60,7 +72,12 @@ module _ (x : Tables) (serial name password b : List ℕ) where
   unfolding boot_answer block_after boot_refusal booted
   too_short y l = let short = lt-ltb _ _ l in record { answer = rw (y, short); left = rw (y, short) }
 
-  pub answered : all_whole x ≡ true → 194 ≤ length b → (h : Honor) {b' : List ℕ} → Answers x serial name password b (flag_of h) b' → Boots x serial name password b (Ok h) b'
-  unfolding boot_answer block_after boot_refusal booted
-  answered y g h done = let fits = le-ltb _ _ g in
-      record { answer = rw (y, fits) (ap Honors done.answer); left = rw (y, fits) done.left }
+  pub answered : all_whole x ≡ true → 194 ≤ length b → (honor x serial name password < 4 → length (boot_block x serial name password) ≡ 194) → (h : Honor) {p : List ℕ} → Answers x serial name password (take 194 b) (flag_of h) p → Boots x serial name password b (Ok h) (p ++ drop 194 b)
+  unfolding boot_answer block_after boot_refusal booted written
+  answered y g long h done = let fits = le-ltb _ _ g in
+      record {
+        answer = rw (y, fits) (ap Honors done.answer);
+        left = rw (y, fits) (by_test (ltb (honor x serial name password) 4)
+            (λ some. rw some (block_over (boot_block x serial name password) b (omega (arith, long (ltb-true _ _ some))) g (rw some at done.left)))
+            (λ none. rw none (ap (λ (q : List ℕ). q ++ drop 194 b) (rw none at done.left) ∙ take-append-drop 194 b)));
+      }

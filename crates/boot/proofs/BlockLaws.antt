@@ -4,9 +4,9 @@ use Prim.Native.Nat.{ℕ, ◌+◌, ◌-◌, ◌*◌, ◌/◌, ◌≤◌, ◌<◌
 use native.Mathlib.Omega.{arith}
 use mathlib.Core.Path.{◌≡◌, refl, sym, ap, subst, ◌∙◌}
 use mathlib.Core.Bool.{Bool, true, false, not}
-use mathlib.Core.List.{List, [], ◌∷◌, ◌++◌, append_assoc}
-use lib.ListN.{length, set, replicate, length-append, length-replicate}
-use Rattle.rows.specs.Rows.{part, put, join}
+use mathlib.Core.List.{List, [], ◌∷◌, ◌++◌, append_assoc, append-nil}
+use lib.ListN.{length, set, drop, replicate, length-append, length-replicate, drop_of_length-le}
+use Rattle.rows.specs.Rows.{part, put, over, join}
 use Rattle.rows.proofs.IndexLaws.{all_at}
 use Rattle.rows.proofs.BuildLaws.{drop_zeros}
 use Rattle.rows.proofs.RowLaws.{length_part, length_join, over_first, over_next, over_set}
@@ -85,3 +85,9 @@ block_made dir c names io flag long most there =
     let full : length entries ≡ 16 * n = length_join 16 (load_entry dir names) n (λ k l. entry_long dir names there k l) in
     block_laid (part c 0 32) (part c 32 32) entries io flag (length_part c 0 32 (omega arith)) (length_part c 32 32 (omega arith)) (omega (arith, full))
     ∙ ap (λ (k : ℕ). part c 0 32 ++ (io ∷ (part c 32 32 ++ (flag ∷ (entries ++ replicate (128 - k) 0))))) full
+
+-- a block put down whole is over what was there
+pub whole_over : (b : List ℕ) {p q : List ℕ} → length q ≡ length b → q ≡ p → q ≡ over p b
+whole_over b {p} long e =
+    let none : drop (length p) b ≡ [] = drop_of_length-le b (omega (arith, ap length e, long)) in
+    e ∙ sym (append-nil p) ∙ ap (λ (r : List ℕ). p ++ r) (sym none)

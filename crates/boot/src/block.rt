@@ -53,8 +53,8 @@ fn put_entries(directory: &[u8], list: &[u8], block: &mut [u8])
 }
 
 // The block of a choice, of whose names none is missing.
-fn make(directory: &[u8], choice: Choice, iobyte: u8, configuration: &[u8]) -> [u8; 194]
-    requires list_len_bound { (length choice.names.now ≤ 64) × (length configuration.now ≡ 64) }
+fn make(directory: &[u8], choice: Choice, iobyte: u8, configuration: &[u8; 64]) -> [u8; 194]
+    requires list_len_bound { length choice.names.now ≤ 64 }
     requires list_value { all_there directory.now choice.names.now ≡ true }
     ensures { result ≡ block_of directory.now configuration.now iobyte (names_of choice.entry) }
 {
@@ -67,21 +67,20 @@ fn make(directory: &[u8], choice: Choice, iobyte: u8, configuration: &[u8]) -> [
     block
 }
 
-// Sends a choice: its honor, with the block at the start of the buffer; or nothing where a name is not in the directory.
+// Sends a choice: its honor, with its block; or nothing, and the block stays, where a name is not in the directory.
 pub fn send(
     directory: &[u8],
     choice: Choice,
     iobyte: u8,
-    configuration: &[u8],
-    buffer: &mut [u8],
+    configuration: &[u8; 64],
+    block: &mut [u8; BLOCK],
 ) -> Honor
-    requires { (length choice.names.now ≤ 64) × (length configuration.now ≡ 64) × (194 ≤ length buffer.old) }
-    ensures { Sends directory.now configuration.now iobyte (names_of choice.entry) buffer.old (flag_of result) buffer.new }
+    requires { length choice.names.now ≤ 64 }
+    ensures { Sends directory.now configuration.now iobyte (names_of choice.entry) block.old (flag_of result) block.new }
 {
     if !all_there(directory, choice.names) {
         return Honor::Nothing;
     }
-    let block = make(directory, choice, iobyte, configuration);
-    rows::put(buffer, 0, &block);
+    *block = make(directory, choice, iobyte, configuration);
     choice.honor
 }

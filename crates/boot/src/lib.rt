@@ -6,7 +6,7 @@ mod block;
 mod lookups;
 mod systems;
 
-ghost use Rattle.std.specs.Prelude.{◌≡◌, ◌≤◌, ◌<◌, length};
+ghost use Rattle.std.specs.Prelude.{◌≡◌, ◌<◌};
 ghost use Rattle.boot.specs.Tables.{iobyte, machine_rows, product_rows};
 ghost use Rattle.boot.specs.Honors.{flag_of};
 ghost use Rattle.boot.specs.Choice.{machine_row, chosen};
@@ -73,16 +73,16 @@ struct Choice<'a> {
 
 // Sends what the name and password get at the machine of row m, whose product is row p.
 #[tactic(auto, unfolding(crate::specs::Tables::machine_rows))]
-fn send_chosen(login: &Login, tables: &Tables, m: usize, p: usize, buffer: &mut [u8]) -> Honor
-    requires { (m < machine_rows tables.now.machines.now) × (p < product_rows tables.now.products.now) × (194 ≤ length buffer.old) }
-    ensures { Sends tables.now.directory.now (configuration_of (tables_of tables.now) login.now.name.now login.now.password.now) (iobyte tables.now.machines.now m) (chosen (tables_of tables.now) m p login.now.name.now login.now.password.now) buffer.old (flag_of result) buffer.new }
+fn send_chosen(login: &Login, tables: &Tables, m: usize, p: usize, block: &mut [u8; BLOCK]) -> Honor
+    requires { (m < machine_rows tables.now.machines.now) × (p < product_rows tables.now.products.now) }
+    ensures { Sends tables.now.directory.now (configuration_of (tables_of tables.now) login.now.name.now login.now.password.now) (iobyte tables.now.machines.now m) (chosen (tables_of tables.now) m p login.now.name.now login.now.password.now) block.old (flag_of result) block.new }
 {
     let iobyte = tables.machines[lookups::MACHINE * m + 11];
     match lookups::find_user(tables.users, login.name, login.password) {
         Some(u) => {
             let choice = tables.choose(m, p, u);
             let own = tables.configuration(u);
-            block::send(tables.directory, choice, iobyte, &own, buffer)
+            block::send(tables.directory, choice, iobyte, &own, block)
         }
         None => {
             let please = Choice {
@@ -90,30 +90,29 @@ fn send_chosen(login: &Login, tables: &Tables, m: usize, p: usize, buffer: &mut 
                 names: tables.login_please(p),
             };
             let none = [0u8; lookups::CONFIGURATION];
-            block::send(tables.directory, please, iobyte, &none, buffer)
+            block::send(tables.directory, please, iobyte, &none, block)
         }
     }
 }
 
 // The honor at the machine of row m: Nothing where its product has no row.
 #[tactic(auto, unfolding(crate::specs::Tables::machine_rows))]
-fn answer_at(login: &Login, tables: &Tables, m: usize, buffer: &mut [u8]) -> Honor
-    requires { (m ≡ machine_row (tables_of tables.now) login.now.serial.now) × (m < machine_rows tables.now.machines.now) × (194 ≤ length buffer.old) }
-    ensures { Answers (tables_of tables.now) login.now.serial.now login.now.name.now login.now.password.now buffer.old (flag_of result) buffer.new }
+fn answer_at(login: &Login, tables: &Tables, m: usize, block: &mut [u8; BLOCK]) -> Honor
+    requires { (m ≡ machine_row (tables_of tables.now) login.now.serial.now) × (m < machine_rows tables.now.machines.now) }
+    ensures { Answers (tables_of tables.now) login.now.serial.now login.now.name.now login.now.password.now block.old (flag_of result) block.new }
 {
     match tables.find_product(tables.machines[lookups::MACHINE * m + 4]) {
-        Some(p) => send_chosen(login, tables, m, p, buffer),
+        Some(p) => send_chosen(login, tables, m, p, block),
         None => Honor::Nothing,
     }
 }
 
 // The honor, with the block for all but Nothing: that where the machine has no row.
-fn answer(login: &Login, tables: &Tables, buffer: &mut [u8]) -> Honor
-    requires { 194 ≤ length buffer.old }
-    ensures { Answers (tables_of tables.now) login.now.serial.now login.now.name.now login.now.password.now buffer.old (flag_of result) buffer.new }
+fn answer(login: &Login, tables: &Tables, block: &mut [u8; BLOCK]) -> Honor
+    ensures { Answers (tables_of tables.now) login.now.serial.now login.now.name.now login.now.password.now block.old (flag_of result) block.new }
 {
     match tables.find_machine(login.serial) {
-        Some(m) => answer_at(login, tables, m, buffer),
+        Some(m) => answer_at(login, tables, m, block),
         None => Honor::Nothing,
     }
 }
@@ -126,8 +125,8 @@ pub fn boot(login: &Login, tables: &Tables, buffer: &mut [u8]) -> Result<Honor, 
     if !tables.are_whole() {
         return Err(Refusal::BadBootTables);
     }
-    if buffer.len() < BLOCK {
+    let Some(block) = buffer.first_chunk_mut() else {
         return Err(Refusal::ShortBuffer);
-    }
-    Ok(answer(login, tables, buffer))
+    };
+    Ok(answer(login, tables, block))
 }

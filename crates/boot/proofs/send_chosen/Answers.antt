@@ -8,7 +8,7 @@ use lib.ListN.{length}
 use Rattle.boot.proofs.send_chosen.Goals as goal
 
 pub send-requires : goal.send-requires
-send-requires c = (c.choose-choice.ensures.1, ap length c.configuration-own.ensures ∙ configuration_long _ _, c.requires.2)
+send-requires c = c.choose-choice.ensures.1
 
 pub returns-in-Some : goal.returns-in-Some
 unfolding iobyte
@@ -16,7 +16,7 @@ returns-in-Some c =
     to_user (tables_of c.args.tables.now) c.args.m c.args.p _ _ _ _ c.in-Some.ensures c.configuration-own.ensures c.choose-choice.ensures.0 c.send.ensures
 
 pub send-requires-in-None : goal.send-requires-in-None
-send-requires-in-None c = (omega arith, refl, c.requires.2)
+send-requires-in-None c = omega arith
 
 pub returns-in-None : goal.returns-in-None
 unfolding iobyte no_configuration
