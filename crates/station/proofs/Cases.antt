@@ -22,23 +22,26 @@ use Rattle.frames.specs.Writing.{frame_of, written_of}
 use Rattle.frames.specs.Writing
 use Rattle.station.specs.State.{list_of, wait_of, place_count, listed, is_full, added, code_in, asked_in, nothing}
 use Rattle.station.specs.Good.{good_state}
-use Rattle.station.specs.Asks.{waits, ask_refusal, Asks, frame_awaited, send_refusal, sent_of, buffer_after, Sends}
-use Rattle.station.proofs.StateLaws.{state_is, wait_long}
+use Rattle.station.specs.Asks.{ask_refusal, Asks, frame_awaited, send_refusal, sent_of, buffer_after, Sends}
+use Rattle.refusals.specs.Refusals.{number}
+use Rattle.refusals.proofs.OutcomeLaws.{number_never_0}
+use Rattle.station.proofs.StateLaws.{state_is, too_short, wait_long}
 use Rattle.station.proofs.WaitLaws.{no_request}
 use Rattle.station.specs.Replies.{fits, grants, carries_length, adds, reply_refusal, after_reply, Replies}
 
--- an ask that is not refused is done
-pub ask_done : (st after : List ℕ) → ask_refusal st ≡ 0 → Asks st after 0 after
-ask_done st after e = record { answer = sym e; left = rw e }
+-- an ask of a state too short to be split, and of the two parts of a state: refused, or done
+module _ (st after : List ℕ) where
+  pub ask_short : length st < 15 → Asks st after 11 st
+  unfolding ask_refusal
+  ask_short few = let bad = too_short st few in record { answer = rw bad; left = rw bad }
 
-pub askable : (st : List ℕ) → ask_refusal st ≡ 0 → (good_state st ≡ true) × (waits st ≡ false)
-unfolding ask_refusal
-askable st h = go (good_state st) (waits st) h
-  where
-    go : (g w : Bool) → ◌≡◌ {A = ℕ} (cond (not g) 11 (cond w 14 0)) 0 → (g ≡ true) × (w ≡ false)
-    go true true e = absurd (omega arith)
-    go true false e = (refl, refl)
-    go false w e = absurd (omega arith)
+  pub ask_refused : {b : List ℕ} → b ≡ st → (r : Refusal) → number r ≡ ask_refusal b → Asks st after (number r) b
+  ask_refused same r e =
+      let is = rw same at e in
+      record { answer = is; left = rw (← is, ne_eqb (number r) 0 (number_never_0 r)) same }
+
+  pub ask_done : {b c : List ℕ} → b ≡ st → 0 ≡ ask_refusal b → c ≡ after → Asks st after 0 c
+  ask_done same e done = let is = rw same at e in record { answer = is; left = rw (← is) done }
 
 -- a reply
 module _ (st : List ℕ) (b : ℕ) where

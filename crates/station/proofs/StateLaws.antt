@@ -1,16 +1,15 @@
 -- A station's state: its two parts, its lengths, and its rules as facts.
-use Prim.Native.Nat.{ℕ, ◌-◌, ◌/◌, ◌≤◌}
-use native.Mathlib.Nat.{add-zero}
+use Prim.Native.Nat.{ℕ, ◌-◌, ◌/◌, ◌≤◌, ◌<◌}
 use native.Mathlib.Omega.{arith}
 use mathlib.Core.Path.{◌≡◌, ap, ◌∙◌}
-use mathlib.Core.Bool.{true, ◌&&◌}
+use mathlib.Core.Bool.{true, false, ◌&&◌}
 use mathlib.Core.List.{List, ◌++◌}
 use lib.Dec.{eqb}
-use lib.ListN.{length, get_or, take, drop, length-append, length-drop}
-use lib.Seq.{length-take-le, get_or-drop, take_at, drop_at}
-use borrow.Author.Tests.{eqb-true, eq-eqb}
+use lib.ListN.{length, get_or, take, drop, take-append-drop, length-append, length-drop}
+use lib.Seq.{length-take-le, take_at, drop_at}
+use borrow.Author.Tests.{eqb-true, eq-eqb, ne_eqb}
 use Rattle.rows.proofs.BoolLaws.{and_left, and_right}
-use Rattle.station.specs.State.{list_of, wait_of, code_in}
+use Rattle.station.specs.State.{list_of, wait_of, place_count, code_in}
 use Rattle.station.specs.Good.{limit, state_length, good_list, good_wait, good_state}
 
 -- the two parts of a state, and a state made of two parts
@@ -21,10 +20,6 @@ list_long st = length-take-le (length st - 15) st (omega arith)
 pub wait_long : (st : List ℕ) → 15 ≤ length st → length (wait_of st) ≡ 15
 unfolding wait_of
 wait_long st h = length-drop (length st - 15) st ∙ omega arith
-
-pub code_at : (st : List ℕ) → code_in (wait_of st) ≡ get_or st (length st - 15) 0
-unfolding code_in wait_of
-code_at st = get_or-drop (length st - 15) st 0 0 ∙ ap (λ (k : ℕ). get_or st k 0) (add-zero _)
 
 module _ (l v : List ℕ) (long : length v ≡ 15) where
   seam : length l ≡ length (l ++ v) - 15
@@ -57,22 +52,29 @@ pub is_state : (st : List ℕ) → GoodState st → good_state st ≡ true
 unfolding good_state
 is_state st g = rw (eq-eqb _ _ g.sized, g.list, g.wait)
 
--- its code, and its two parts, stand where the length says
-pub good_code : (st : List ℕ) → good_state st ≡ true → code_in (wait_of st) ≡ get_or st 896 0
-good_code st h = code_at st ∙ ap (λ (k : ℕ). get_or st k 0) (omega (arith, (state_is st h).sized))
+-- fewer bytes than a frame awaited has are no good state
+pub too_short : (st : List ℕ) → length st < 15 → good_state st ≡ false
+unfolding good_state
+too_short st few = rw (ne_eqb (length st) state_length (λ e. absurd (omega (arith, e, few))))
 
-module _ (st : List ℕ) (sized : length st ≡ state_length) where
-  pub list_front : take 896 st ≡ list_of st
-  unfolding list_of
-  list_front = let e : 896 ≡ length st - 15 = omega (arith, sized) in ap (λ (k : ℕ). take k st) e
+-- the parts that a state is split into make it again, and it keeps the rules just where both do
+module _ (st : List ℕ) {l v : List ℕ} (e : l ≡ take (length st - 15) st) (f : v ≡ drop (length st - 15) st) where
+  pub parts_make : l ++ v ≡ st
+  parts_make = rw (e, f) (take-append-drop (length st - 15) st)
 
-  pub wait_back : drop 896 st ≡ wait_of st
-  unfolding wait_of
-  wait_back = let e : 896 ≡ length st - 15 = omega (arith, sized) in ap (λ (k : ℕ). drop k st) e
-
-  -- so it keeps the rules just where both do
-  pub good_parts : (l v : List ℕ) → l ≡ take 896 st → v ≡ drop 896 st → good_state st ≡ (good_list (length l / 14) l && good_wait v)
+module _ (l v : List ℕ) (long : length v ≡ 15) where
+  pub parts_other : (length l ≡ 896 → ⊥) → good_state (l ++ v) ≡ false
   unfolding good_state
-  good_parts l v e f =
-      let places : length l / 14 ≡ limit = rw e (ap (λ (k : ℕ). k / 14) (length-take-le 896 st (omega (arith, sized)))) in
-      rw (eq-eqb _ _ sized, places, e, f, list_front, wait_back)
+  parts_other ne = rw (ne_eqb (length (l ++ v)) state_length (λ e. ne (omega (arith, e, length-append l v))))
+
+  pub parts_sized : length l ≡ 896 → good_state (l ++ v) ≡ (good_list (place_count l) l && good_wait v)
+  unfolding good_state
+  parts_sized sized =
+      let whole : length (l ++ v) ≡ state_length = omega (arith, sized, length-append l v) in
+      let places : place_count l ≡ limit = ap (λ (k : ℕ). k / 14) sized in
+      rw (eq-eqb _ _ whole, places, list_of_lem l v long, wait_of_lem l v long)
+
+  -- its code is the first byte of the frame awaited
+  pub parts_code : code_in (wait_of (l ++ v)) ≡ get_or v 0 0
+  unfolding code_in
+  parts_code = rw (wait_of_lem l v long)

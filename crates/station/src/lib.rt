@@ -6,7 +6,7 @@ mod list;
 mod rules;
 mod wait;
 
-ghost use Rattle.std.specs.Prelude.{◌≡◌, not, ◌&&◌, eqb};
+ghost use Rattle.std.specs.Prelude.{◌≡◌, not, ◌&&◌, ◌++◌, eqb};
 ghost use Rattle.refusals.specs.Outcomes.{refusal_in};
 ghost use Rattle.rows.specs.Outcomes.{Gives};
 ghost use Rattle.terms.specs.Statuses.{byte_of};
@@ -21,6 +21,7 @@ ghost use Rattle.station.specs.Replies.{fits, grants, carries_length, Replies};
 use frames::{Code, Request};
 use refusals::Refusal;
 use terms::{LockString, Status};
+use wait::WAIT;
 
 // How many locks a station may hold, and the bytes of its state then: those of the list, and last those of the frame awaited.
 pub const LIMIT: usize = 64;
@@ -29,15 +30,24 @@ pub const BYTES: usize = 911;
 
 const LIST: usize = 896;
 
+// The two parts of a state keep every rule.
+fn parts_good(list: &[u8], wait: &[u8; WAIT]) -> bool
+    ensures { result ≡ good_state (list.now ++ wait.now) }
+{
+    if list.len() != LIST {
+        return false;
+    }
+    rules::list_good(list) && rules::wait_good(wait)
+}
+
 // The state keeps every rule; refusal 11 where it does not.
 pub fn is_good(state: &[u8]) -> bool
     ensures { Gives (good_state state.now) result }
 {
-    if state.len() != BYTES {
-        return false;
+    match state.split_last_chunk() {
+        Some((list, wait)) => parts_good(list, wait),
+        None => false,
     }
-    let (list, wait) = state.split_at(LIST);
-    rules::list_good(list) && rules::wait_good(wait)
 }
 
 // Empties the list and awaits nothing: 11 for another size.
@@ -51,14 +61,14 @@ pub fn fresh(state: &mut [u8]) -> Result<(), Refusal>
     Ok(())
 }
 
-// 11 the state, 14 a reply is awaited.
-fn may_ask(state: &[u8]) -> Result<(), Refusal>
-    ensures { refusal_in result ≡ ask_refusal state.now }
+// 11 the state of these parts, 14 a reply is awaited.
+fn may_ask(list: &[u8], wait: &[u8; WAIT]) -> Result<(), Refusal>
+    ensures { refusal_in result ≡ ask_refusal (list.now ++ wait.now) }
 {
-    if !is_good(state) {
+    if !parts_good(list, wait) {
         return Err(Refusal::BadTables);
     }
-    if state[LIST] != 0 {
+    if wait[0] != 0 {
         return Err(Refusal::StillWaiting);
     }
     Ok(())
@@ -68,8 +78,10 @@ fn may_ask(state: &[u8]) -> Result<(), Refusal>
 pub fn ask_lock(state: &mut [u8], s: LockString) -> Result<(), Refusal>
     ensures { Asks state.old (after_lock state.old s) (refusal_in result) state.new }
 {
-    may_ask(state)?;
-    let (_, wait) = state.split_at_mut(LIST);
+    let Some((list, wait)) = state.split_last_chunk_mut() else {
+        return Err(Refusal::BadTables);
+    };
+    may_ask(list, wait)?;
     wait::begin(wait, Code::Lock, s);
     Ok(())
 }
@@ -78,8 +90,10 @@ pub fn ask_lock(state: &mut [u8], s: LockString) -> Result<(), Refusal>
 pub fn ask_unlock(state: &mut [u8], s: LockString) -> Result<(), Refusal>
     ensures { Asks state.old (after_unlock state.old s) (refusal_in result) state.new }
 {
-    may_ask(state)?;
-    let (list, wait) = state.split_at_mut(LIST);
+    let Some((list, wait)) = state.split_last_chunk_mut() else {
+        return Err(Refusal::BadTables);
+    };
+    may_ask(list, wait)?;
     list::strike(list, s);
     wait::begin(wait, Code::Unlock, s);
     Ok(())
@@ -89,8 +103,10 @@ pub fn ask_unlock(state: &mut [u8], s: LockString) -> Result<(), Refusal>
 pub fn ask_clear(state: &mut [u8]) -> Result<(), Refusal>
     ensures { Asks state.old (after_clear state.old) (refusal_in result) state.new }
 {
-    may_ask(state)?;
-    let (list, wait) = state.split_at_mut(LIST);
+    let Some((list, wait)) = state.split_last_chunk_mut() else {
+        return Err(Refusal::BadTables);
+    };
+    may_ask(list, wait)?;
     let no_string = LockString {
         len: 0,
         bytes: [0; 13],
@@ -104,10 +120,12 @@ pub fn ask_clear(state: &mut [u8]) -> Result<(), Refusal>
 pub fn send(state: &[u8], buffer: &mut [u8]) -> Result<usize, Refusal>
     ensures { Sends state.now buffer.old result buffer.new }
 {
-    if !is_good(state) {
+    let Some((list, wait)) = state.split_last_chunk() else {
+        return Err(Refusal::BadTables);
+    };
+    if !parts_good(list, wait) {
         return Err(Refusal::BadTables);
     }
-    let (_, wait) = state.split_at(LIST);
     let Some(command) = wait::command(wait) else {
         return Ok(0);
     };
@@ -118,19 +136,6 @@ pub fn send(state: &[u8], buffer: &mut [u8]) -> Result<usize, Refusal>
     frames::write(request, buffer)
 }
 
-// The reply is listed for the request.
-#[tactic(auto, unfolding(crate::specs::Replies::fits))]
-fn is_listed_reply(code: Code, status: Status) -> bool
-    ensures { result ≡ fits (code_byte code) (byte_of status) }
-{
-    match code {
-        Code::Lock => true,
-        Code::Unlock => matches!(status, Status::Granted | Status::NotYours),
-        Code::Clear => matches!(status, Status::Granted),
-        _ => false,
-    }
-}
-
 // It is done.
 #[tactic(auto, unfolding(crate::specs::Replies::grants))]
 fn is_grant(status: Status) -> bool
@@ -139,32 +144,55 @@ fn is_grant(status: Status) -> bool
     matches!(status, Status::Granted | Status::AlreadyYours)
 }
 
-// 00 or 81 for an illegal length.
-#[tactic(auto, unfolding(crate::specs::Replies::carries_length))]
-fn is_bad_grant(code: Code, s: LockString, status: Status) -> bool
-    ensures { result ≡ grants (byte_of status) && (carries_length (code_byte code) && not (legal s)) }
-{
-    match code {
-        Code::Lock | Code::Unlock => is_grant(status) && !terms::is_legal(s),
-        _ => false,
+// A reply to the frame awaited: its code and string, and the status that came.
+#[derive(Clone, Copy)]
+struct Reply {
+    code: Code,
+    string: LockString,
+    status: Status,
+}
+
+impl Reply {
+    // It is listed for the request.
+    #[tactic(auto, unfolding(crate::specs::Replies::fits))]
+    fn is_listed(&self) -> bool
+        ensures { result ≡ fits (code_byte self.now.code) (byte_of self.now.status) }
+    {
+        match self.code {
+            Code::Lock => true,
+            Code::Unlock => matches!(self.status, Status::Granted | Status::NotYours),
+            Code::Clear => matches!(self.status, Status::Granted),
+            _ => false,
+        }
     }
-}
 
-// The reply is listed, and grants no illegal length.
-fn is_fit(code: Code, s: LockString, status: Status) -> bool
-    ensures { result ≡ fits (code_byte code) (byte_of status) && not (grants (byte_of status) && (carries_length (code_byte code) && not (legal s))) }
-{
-    is_listed_reply(code, status) && !is_bad_grant(code, s, status)
-}
+    // 00 or 81 for an illegal length.
+    #[tactic(auto, unfolding(crate::specs::Replies::carries_length))]
+    fn is_bad_grant(&self) -> bool
+        ensures { result ≡ grants (byte_of self.now.status) && (carries_length (code_byte self.now.code) && not (legal self.now.string)) }
+    {
+        match self.code {
+            Code::Lock | Code::Unlock => is_grant(self.status) && !terms::is_legal(self.string),
+            _ => false,
+        }
+    }
 
-// The reply adds the string to the list.
-#[tactic(auto, using(rows::proofs::OutcomeLaws::finds_some), unfolding(crate::specs::State::is_listed, crate::specs::State::place_of))]
-fn is_new(list: &[u8], code: Code, s: LockString, status: Status) -> bool
-    ensures { result ≡ eqb (code_byte code) LOCK && (grants (byte_of status) && not (is_listed list.now s)) }
-{
-    match code {
-        Code::Lock => is_grant(status) && list::find(list, s).is_none(),
-        _ => false,
+    // It is listed, and grants no illegal length.
+    fn is_fit(&self) -> bool
+        ensures { result ≡ fits (code_byte self.now.code) (byte_of self.now.status) && not (grants (byte_of self.now.status) && (carries_length (code_byte self.now.code) && not (legal self.now.string))) }
+    {
+        self.is_listed() && !self.is_bad_grant()
+    }
+
+    // It adds its string to the list.
+    #[tactic(auto, using(rows::proofs::OutcomeLaws::finds_some), unfolding(crate::specs::State::is_listed, crate::specs::State::place_of))]
+    fn is_new(&self, list: &[u8]) -> bool
+        ensures { result ≡ eqb (code_byte self.now.code) LOCK && (grants (byte_of self.now.status) && not (is_listed list.now self.now.string)) }
+    {
+        match self.code {
+            Code::Lock => is_grant(self.status) && list::find(list, self.string).is_none(),
+            _ => false,
+        }
     }
 }
 
@@ -172,25 +200,32 @@ fn is_new(list: &[u8], code: Code, s: LockString, status: Status) -> bool
 pub fn take_reply(state: &mut [u8], reply: u8) -> Result<(), Refusal>
     ensures { Replies state.old reply (refusal_in result) state.new }
 {
-    if !is_good(state) {
+    let Some((list, wait)) = state.split_last_chunk_mut() else {
+        return Err(Refusal::BadTables);
+    };
+    if !parts_good(list, wait) {
         return Err(Refusal::BadTables);
     }
-    let (list, wait) = state.split_at_mut(LIST);
     let Ok(code) = Code::try_from(wait[0]) else {
         return Err(Refusal::UnfitReply);
     };
     let Ok(status) = Status::try_from(reply) else {
         return Err(Refusal::UnfitReply);
     };
-    let s = wait::string(wait);
-    if !is_fit(code, s, status) {
+    let string = wait::string(wait);
+    let reply = Reply {
+        code,
+        string,
+        status,
+    };
+    if !reply.is_fit() {
         return Err(Refusal::UnfitReply);
     }
-    if is_new(list, code, s, status) {
+    if reply.is_new(list) {
         let Some(at) = list::first_unused(list) else {
             return Err(Refusal::UnfitReply);
         };
-        list::put(list, at, s);
+        list::put(list, at, string);
     }
     wait.fill(0);
     Ok(())

@@ -45,16 +45,11 @@ pub fn find(list: &[u8], s: LockString) -> Option<usize>
 }
 
 // The first unused place: how many strings are listed.
-#[tactic(auto, using(rows::proofs::IndexLaws::search_on, rows::proofs::IndexLaws::search_hit, rows::proofs::IndexLaws::search_ends), unfolding(rows::specs::Words::any, crate::specs::State::listed))]
+#[tactic(auto, unfolding(crate::specs::State::listed))]
 pub fn first_unused(list: &[u8]) -> Option<usize>
     ensures { Finds (place_count list.now) (listed list.now) result }
 {
-    for i in 0..list.len() / PLACE {
-        if is_unused(list, i) {
-            return Some(i);
-        }
-    }
-    None
+    strings(list).first_free()
 }
 
 // Puts s down in place i, with zeros after it.

@@ -5,6 +5,7 @@ ghost use Rattle.station.specs.State.{place_count};
 ghost use Rattle.station.specs.Good.{good_place, good_at, in_front, good_list, good_wait};
 
 use crate::list;
+use crate::wait::WAIT;
 use frames::Code;
 
 // A place by itself: unused and zero, or a legal string with zeros after it.
@@ -56,8 +57,7 @@ pub fn list_good(list: &[u8]) -> bool
 
 // The 15 bytes awaited are a lock, an unlock, a clear with zeros after it, or zeros.
 #[tactic(auto, using(crate::proofs::WaitLaws::no_code, crate::proofs::WaitLaws::clear_code), unfolding(crate::specs::Good::good_wait, crate::specs::State::code_in))]
-pub fn wait_good(wait: &[u8]) -> bool
-    requires { length wait.now ≡ 15 }
+pub fn wait_good(wait: &[u8; WAIT]) -> bool
     ensures { result ≡ good_wait wait.now }
 {
     match Code::try_from(wait[0]) {

@@ -1,5 +1,5 @@
 // The frame awaited, as it stands in the last 15 bytes of a state: its code, 0 for none, and the string asked for.
-ghost use Rattle.std.specs.Prelude.{◌≡◌, length};
+ghost use Rattle.std.specs.Prelude.{◌≡◌};
 ghost use Rattle.frames.specs.Codes.{byte_of};
 ghost use Rattle.station.specs.State.{asked_in};
 ghost use Rattle.station.specs.Asks.{awaited, command_in};
@@ -7,9 +7,11 @@ ghost use Rattle.station.specs.Asks.{awaited, command_in};
 use frames::{Code, Command};
 use terms::LockString;
 
+// The bytes of the frame awaited.
+pub const WAIT: usize = 15;
+
 // Awaits the frame with this code and string.
-pub fn begin(wait: &mut [u8], code: Code, s: LockString)
-    requires { length wait.old ≡ 15 }
+pub fn begin(wait: &mut [u8; WAIT], code: Code, s: LockString)
     ensures { wait.new ≡ awaited (byte_of code) s }
 {
     wait[0] = u8::from(code);
@@ -18,8 +20,7 @@ pub fn begin(wait: &mut [u8], code: Code, s: LockString)
 
 // The string asked for, as it was asked.
 #[tactic(auto, unfolding(crate::specs::State::asked_in))]
-pub fn string(wait: &[u8]) -> LockString
-    requires { length wait.now ≡ 15 }
+pub fn string(wait: &[u8; WAIT]) -> LockString
     ensures { result ≡ asked_in wait.now }
 {
     terms::string_at(wait, 1)
@@ -27,8 +28,7 @@ pub fn string(wait: &[u8]) -> LockString
 
 // The command whose frame is awaited.
 #[tactic(auto, using(crate::proofs::WaitLaws::no_command), unfolding(crate::specs::Asks::command_in, crate::specs::State::code_in))]
-pub fn command(wait: &[u8]) -> Option<Command>
-    requires { length wait.now ≡ 15 }
+pub fn command(wait: &[u8; WAIT]) -> Option<Command>
     ensures { result ≡ command_in wait.now }
 {
     let Ok(code) = Code::try_from(wait[0]) else {

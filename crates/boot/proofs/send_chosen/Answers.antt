@@ -1,10 +1,7 @@
 use Rattle.boot.specs.Lent.{tables_of}
 use Rattle.boot.specs.Tables.{iobyte, no_configuration}
-use Rattle.boot.proofs.TableLaws.{configuration_long}
 use Rattle.boot.proofs.AnswerLaws.{to_nobody, to_user}
 use native.Mathlib.Omega.{arith}
-use mathlib.Core.Path.{refl, ap, ◌∙◌}
-use lib.ListN.{length}
 use Rattle.boot.proofs.send_chosen.Goals as goal
 
 pub send-requires : goal.send-requires

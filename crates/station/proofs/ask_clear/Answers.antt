@@ -1,27 +1,24 @@
+use borrow.Author.Rules.{rules}
+use mathlib.Core.Path.{ap, ◌∙◌}
 use Prim.Native.Nat.{ℕ}
-use native.Mathlib.Omega.{arith}
-use mathlib.Core.Path.{◌≡◌, sym, ap, ◌∙◌}
+use mathlib.Core.List.{List}
 use lib.ListN.{length, replicate}
-use Rattle.station.proofs.Cases.{askable, ask_done}
-use Rattle.station.proofs.StateLaws.{state_is, list_long}
-use Rattle.station.specs.Asks.{awaited, after_clear}
+use Rattle.station.proofs.Cases.{ask_short, ask_refused, ask_done}
+use Rattle.station.proofs.StateLaws.{parts_make}
+use Rattle.station.specs.Asks.{after_clear, awaited}
 use Rattle.station.specs.State.{list_of}
 use Rattle.station.proofs.ask_clear.Goals as goal
 
-pub split_at_mut-list-requires : goal.split_at_mut-list-requires
-split_at_mut-list-requires c = let st = c.args.state.now in omega (arith, (state_is st (askable st (sym c.in_ok-may_ask.ensures)).0).sized)
+pub returns-in_default : goal.returns-in_default
+returns-in_default c = ask_short _ _ c.in_default.ensures.cases
 
-pub begin-requires : goal.begin-requires
-begin-requires c = let st = c.args.state.now in
-    omega (arith, c.split_at_mut-list.ensures.back_len, (state_is st (askable st (sym c.in_ok-may_ask.ensures)).0).sized)
+pub returns-in_err-may_ask : goal.returns-in_err-may_ask
+returns-in_err-may_ask c =
+    let parts = c.in-Some.ensures.cases in
+    let refused = ask_refused c.args.state.now (after_clear c.args.state.now) (parts_make _ parts.0 parts.1) c.in_err-may_ask.field-0.0 c.in_err-may_ask.ensures in search rules
 
 pub returns : goal.returns
-unfolding after_clear awaited
+unfolding after_clear awaited list_of
 returns c =
-    let st = c.args.state.now in
-    let asked = sym c.in_ok-may_ask.ensures in
-    let sized = (state_is st (askable st asked).0).sized in
-    let g = ask_done st (after_clear st) asked in
-    let long : length c.split_at_mut-list.result.0.now ≡ length (list_of st) = omega (arith, c.split_at_mut-list.ensures.front_len, list_long st, sized) in
-    let empty : c.fill.new.self ≡ replicate (length (list_of st)) 0 = c.fill.ensures.after (λ y e. e) ∙ ap (λ (k : ℕ). replicate k 0) long in
-    record { answer = g.answer; left = rw (empty, c.begin.ensures) g.left }
+    let parts = c.in-Some.ensures.cases in
+    ask_done c.args.state.now (after_clear c.args.state.now) (parts_make _ parts.0 parts.1) c.in_ok-may_ask.ensures (rw (c.fill.ensures.after (λ y e. e) ∙ ap (λ (l : List ℕ). replicate (length l) 0) parts.0, c.begin.ensures))

@@ -1,20 +1,20 @@
-use mathlib.Core.Path.{sym}
-use native.Mathlib.Omega.{arith}
-use Rattle.station.proofs.Cases.{askable, ask_done}
-use Rattle.station.proofs.StateLaws.{state_is, list_front}
+use borrow.Author.Rules.{rules}
+use Rattle.station.proofs.Cases.{ask_short, ask_refused, ask_done}
+use Rattle.station.proofs.StateLaws.{parts_make}
 use Rattle.station.specs.Asks.{after_lock}
+use Rattle.station.specs.State.{list_of}
 use Rattle.station.proofs.ask_lock.Goals as goal
 
-pub split_at_mut-wait-requires : goal.split_at_mut-wait-requires
-split_at_mut-wait-requires c = let st = c.args.state.now in omega (arith, (state_is st (askable st (sym c.in_ok-may_ask.ensures)).0).sized)
+pub returns-in_default : goal.returns-in_default
+returns-in_default c = ask_short _ _ c.in_default.ensures.cases
 
-pub begin-requires : goal.begin-requires
-begin-requires c = let st = c.args.state.now in
-    omega (arith, c.split_at_mut-wait.ensures.back_len, (state_is st (askable st (sym c.in_ok-may_ask.ensures)).0).sized)
+pub returns-in_err-may_ask : goal.returns-in_err-may_ask
+returns-in_err-may_ask c =
+    let parts = c.in-Some.ensures.cases in
+    let refused = ask_refused c.args.state.now (after_lock c.args.state.now c.args.s) (parts_make _ parts.0 parts.1) c.in_err-may_ask.field-0.0 c.in_err-may_ask.ensures in search rules
 
 pub returns : goal.returns
-unfolding after_lock
-returns c = let st = c.args.state.now in
-    let asked = sym c.in_ok-may_ask.ensures in
-    let g = ask_done st (after_lock st c.args.s) asked in
-    record { answer = g.answer; left = rw (c.split_at_mut-wait.ensures.front, list_front st (state_is st (askable st asked).0).sized, c.begin.ensures) g.left }
+unfolding after_lock list_of
+returns c =
+    let parts = c.in-Some.ensures.cases in
+    ask_done c.args.state.now (after_lock c.args.state.now c.args.s) (parts_make _ parts.0 parts.1) c.in_ok-may_ask.ensures (rw (parts.0, c.begin.ensures))

@@ -1,17 +1,8 @@
-use Rattle.station.proofs.StateLaws.{good_parts}
-use Rattle.station.specs.Good.{good_state}
-use borrow.Author.Tests.{ne_eqb}
-use mathlib.Core.Path.{sym, ◌∙◌}
+use Rattle.station.proofs.StateLaws.{too_short, parts_make}
 use Rattle.station.proofs.is_good.Goals as goal
 
-pub returns-then-state-ne-BYTES : goal.returns-then-state-ne-BYTES
-unfolding good_state
-returns-then-state-ne-BYTES c = record { answer = rw (ne_eqb _ _ c.if-state-ne-BYTES.true) }
+pub returns-in-Some : goal.returns-in-Some
+returns-in-Some c = let e = c.in-Some.ensures.cases in record { answer = rw (parts_make _ e.0 e.1) at c.parts_good.ensures }
 
-pub returns-then-list_good : goal.returns-then-list_good
-returns-then-list_good c =
-    record { answer = rw (good_parts c.args.state.now c.if-state-ne-BYTES.false _ _ c.split_at.ensures.front c.split_at.ensures.back, sym c.list_good.ensures ∙ c.if-list_good.true) c.wait_good.ensures }
-
-pub returns-else-list_good : goal.returns-else-list_good
-returns-else-list_good c =
-    record { answer = rw (good_parts c.args.state.now c.if-state-ne-BYTES.false _ _ c.split_at.ensures.front c.split_at.ensures.back, sym c.list_good.ensures ∙ c.if-list_good.false) c.if-list_good.false }
+pub returns-in-None : goal.returns-in-None
+returns-in-None c = let e = c.in-None in record { answer = rw (too_short _ c.in-None.ensures.cases) }

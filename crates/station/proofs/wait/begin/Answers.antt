@@ -15,5 +15,6 @@ returns c =
     let w = a.wait.now in
     let own : length a.s.bytes ≡ 13 = search rules in
     let long : length (string_bytes a.s) ≡ 14 = rw own in
+    let whole : length w ≡ 15 = search rules in
     let b = c.from.result in
-    c.put_string.ensures.0 ∙ rw (set_put w 0 b (omega (arith, c.requires)), put_next w (b ∷ []) (string_bytes a.s) 0 1 refl (omega (arith, c.requires, long)), c.from.ensures) (put_last w (_ ∷ string_bytes a.s) 0 (omega (arith, c.requires, long)))
+    c.put_string.ensures.0 ∙ rw (set_put w 0 b (omega (arith, whole)), put_next w (b ∷ []) (string_bytes a.s) 0 1 refl (omega (arith, whole, long)), c.from.ensures) (put_last w (_ ∷ string_bytes a.s) 0 (omega (arith, whole, long)))
