@@ -53,7 +53,7 @@ fn words_of(honor: Honor) -> &'static str {
     }
 }
 
-// A name without its padding.
+// A name without its padding. The loop counts no index: it goes on while its pattern fits what is left, and a `for` would not.
 fn unpadded(name: &[u8]) -> &[u8]
     ensures { length result.now ≤ length name.now }
 {

@@ -1,10 +1,9 @@
 // The command boot: what a login is given to load, by the tables in a folder. What that is, the crate `boot` alone says.
-ghost use Rattle.std.specs.Prelude.{◌≤◌, ◌<◌};
-
 use crate::{LINE, NAME, Status, argument, file_named, misused, refuse_name, say};
 use boot::{Honor, Login, Tables};
 use files::Errors;
 use pages::Page;
+use std::ops::Range;
 use std::rt::{Env, Files};
 
 // Reads the table of this name.
@@ -74,41 +73,42 @@ fn answer<R: Files + Print + Errors>(rt: &R, folder: &[u8], login: &Login) -> Op
     print_answer(rt, login, &tables)
 }
 
-// Takes SERIAL, NAME and PASSWORD from the last three words.
-fn log_in<R: Env + Files + Print + Errors>(rt: &R, folder: &[u8], count: usize) -> Option<Status>
-    requires { 3 ≤ count }
-{
+// Logs in with the words SERIAL, NAME and PASSWORD.
+fn log_in<R: Env + Files + Print + Errors>(
+    rt: &R,
+    folder: &[u8],
+    [serial, name, password]: [usize; 3],
+) -> Option<Status> {
     let mut text = [0u8; 8];
-    let mut serial = [0u8; 4];
-    if hex::decode_to_slice(argument(rt, count - 3, &mut text), &mut serial).is_err() {
+    let mut own_serial = [0u8; 4];
+    if hex::decode_to_slice(argument(rt, serial, &mut text), &mut own_serial).is_err() {
         return misused(rt, b"boot: SERIAL is eight hex digits", b"");
     }
-    let mut name = [0u8; 8];
-    if rt.arg(count - 2, &mut name).is_err() {
+    let mut own_name = [0u8; 8];
+    if rt.arg(name, &mut own_name).is_err() {
         return misused(rt, b"boot: NAME has more than 8 characters", b"");
     }
-    let mut password = [0u8; 6];
-    if rt.arg(count - 1, &mut password).is_err() {
+    let mut own_password = [0u8; 6];
+    if rt.arg(password, &mut own_password).is_err() {
         return misused(rt, b"boot: PASSWORD has more than 6 characters", b"");
     }
     let login = Login {
-        serial: &serial,
-        name: &name,
-        password: &password,
+        serial: &own_serial,
+        name: &own_name,
+        password: &own_password,
     };
     answer(rt, folder, &login)
 }
 
-// The command, which argument i is: what follows it is a folder, a serial number, a name and a password.
-pub fn run<R: Env + Files + Print + Errors>(rt: &R, i: usize, count: usize) -> Option<Status>
-    requires { i < count }
-{
-    if count - i != 5 {
+// The command boot: what follows it is a folder, a serial number, a name and a password.
+pub fn run<R: Env + Files + Print + Errors>(rt: &R, words: Range<usize>) -> Option<Status> {
+    if words.len() != 4 {
         return misused(rt, b"boot: FOLDER SERIAL NAME PASSWORD", b"");
     }
     let mut folder = [0u8; NAME];
-    match rt.arg(i + 1, &mut folder) {
-        Ok(n) => log_in(rt, &folder[..n], count),
+    let first = words.start;
+    match rt.arg(first, &mut folder) {
+        Ok(n) => log_in(rt, &folder[..n], [first + 1, first + 2, first + 3]),
         Err(_) => Some(refuse_name(rt, &folder)),
     }
 }

@@ -1,12 +1,13 @@
-// The commands of ./hinet. The program ends with 0: where its first argument is --status, it writes its status, one digit,
-// to descriptor 3 at its end. What cannot be read or written is told on standard error.
+// The commands of ./hinet. The words of a command are the range of their places among the arguments. The program ends with 0:
+// where its first argument is --status, it writes its status, one digit, to descriptor 3 at its end. What cannot be read or
+// written is told on standard error.
 #![tactic(auto)]
 
 mod boots;
 mod disks;
 mod words;
 
-ghost use Rattle.std.specs.Prelude.{◌≤◌, ◌<◌, length};
+ghost use Rattle.std.specs.Prelude.{◌≤◌, length};
 
 use files::Errors;
 use pages::frame::Unfit;
@@ -15,6 +16,7 @@ use std::env::FillError;
 use std::fs::OpenOptions;
 use std::io;
 use std::io::{Error, ErrorKind, Write};
+use std::ops::Range;
 use std::rt::{Env, Files};
 
 // How a command ends: all is good, a file breaks a rule or nothing can be loaded, wrong use, something could not be read or
@@ -59,6 +61,9 @@ const TOO_LONG: i32 = 36;
 const NAME: usize = 4095;
 
 const LINE: usize = 4295;
+
+// How the command `line` is used.
+const LINE_USE: &[u8] = b"line: write BYTES or read BITS";
 
 // How many arguments there are, the program's name among them.
 fn argument_count(rt: &impl Env) -> usize {
@@ -140,17 +145,13 @@ fn check_argument<R: Env + Files + Print + Errors>(rt: &R, i: usize) -> Option<S
     }
 }
 
-// The command check-site: the arguments from `first` on are its files.
-fn check_site<R: Env + Files + Print + Errors>(
-    rt: &R,
-    first: usize,
-    count: usize,
-) -> Option<Status> {
-    if count <= first {
+// The command check-site: the words that follow it are its files.
+fn check_site<R: Env + Files + Print + Errors>(rt: &R, words: Range<usize>) -> Option<Status> {
+    if words.is_empty() {
         return misused(rt, b"check-site: no FILE", b"");
     }
     let mut worst = Status::Good;
-    for i in first..count {
+    for i in words {
         worst = worst.max(check_argument(rt, i)?);
     }
     Some(worst)
@@ -173,15 +174,15 @@ fn print_tables<R: Print + Errors>(rt: &R, sizes: &[u32]) -> Option<Status> {
 }
 
 // The command parameters: what follows it is a size code, or nothing for all of them.
-fn parameters<R: Env + Print + Errors>(rt: &R, first: usize, count: usize) -> Option<Status> {
-    if count <= first {
+fn parameters<R: Env + Print + Errors>(rt: &R, mut words: Range<usize>) -> Option<Status> {
+    let Some(size) = words.next() else {
         return print_tables(rt, &[1, 2, 3, 4, 5, 6]);
-    }
-    if first + 1 < count {
+    };
+    if !words.is_empty() {
         return misused(rt, b"parameters: more than one SIZE", b"");
     }
     let mut room = [0u8; NAME];
-    let word = argument(rt, first, &mut room);
+    let word = argument(rt, size, &mut room);
     match digit_of(word) {
         Some(size) if params::cpm_parameters(size).is_ok() => print_tables(rt, &[size]),
         _ => misused(rt, b"parameters: SIZE is 1 to 6, and not ", word),
@@ -201,47 +202,35 @@ fn say_frame<R: Print + Errors>(
     say(rt, page.text(), status)
 }
 
-// Writes the frame whose user number and data argument i has in hex, and prints its bits.
-fn line_write<R: Env + Print + Errors>(rt: &R, i: usize) -> Option<Status> {
+// The command line: what follows it is `write`, and user number and data in hex, whose frame's bits are printed; or `read`,
+// and the bits of a frame, of which what was read is printed.
+fn line<R: Env + Print + Errors>(rt: &R, mut words: Range<usize>) -> Option<Status> {
+    let (Some(way), Some(data), None) = (words.next(), words.next(), words.next()) else {
+        return misused(rt, LINE_USE, b"");
+    };
     let mut text = [0u8; frame::TEXT];
+    let text = argument(rt, data, &mut text);
     let mut room = [0u8; frame::PAGE];
     let mut page = Page::new(&mut room);
-    let told = frame::append_written(&mut page, argument(rt, i, &mut text));
+    let told = match argument(rt, way, &mut [0u8; 8]) {
+        b"write" => frame::append_written(&mut page, text),
+        b"read" => frame::append_read(&mut page, text),
+        _ => return misused(rt, LINE_USE, b""),
+    };
     say_frame(rt, &mut page, told)
 }
 
-// Reads the frame whose bits argument i has, and prints what was read.
-fn line_read<R: Env + Print + Errors>(rt: &R, i: usize) -> Option<Status> {
-    let mut text = [0u8; frame::TEXT];
-    let mut room = [0u8; frame::PAGE];
-    let mut page = Page::new(&mut room);
-    let told = frame::append_read(&mut page, argument(rt, i, &mut text));
-    say_frame(rt, &mut page, told)
-}
-
-// The command line, which argument i is: what follows it is `write` and bytes, or `read` and bits.
-fn line<R: Env + Print + Errors>(rt: &R, i: usize, count: usize) -> Option<Status>
-    requires { i < count }
-{
-    let mut room = [0u8; 8];
-    match argument(rt, i + 1, &mut room) {
-        b"write" if count - i == 3 => line_write(rt, i + 2),
-        b"read" if count - i == 3 => line_read(rt, i + 2),
-        _ => misused(rt, b"line: write BYTES or read BITS", b""),
-    }
-}
-
-// Runs the command that argument i is.
-fn run<R: Env + Files + Print + Errors>(rt: &R, i: usize, count: usize) -> Option<Status> {
-    if count <= i {
+// Runs the command that the first of these words is.
+fn run<R: Env + Files + Print + Errors>(rt: &R, mut words: Range<usize>) -> Option<Status> {
+    let Some(command) = words.next() else {
         return misused(rt, b"no command", b"");
-    }
+    };
     let mut room = [0u8; NAME];
-    match argument(rt, i, &mut room) {
-        b"check-site" => check_site(rt, i + 1, count),
-        b"parameters" => parameters(rt, i + 1, count),
-        b"line" => line(rt, i, count),
-        b"boot" => boots::run(rt, i, count),
+    match argument(rt, command, &mut room) {
+        b"check-site" => check_site(rt, words),
+        b"parameters" => parameters(rt, words),
+        b"line" => line(rt, words),
+        b"boot" => boots::run(rt, words),
         word => misused(rt, b"unknown command: ", word),
     }
 }
@@ -264,10 +253,10 @@ fn main(rt: HostRuntime) {
     let count = argument_count(&rt);
     let mut room = [0u8; 8];
     if argument(&rt, 1, &mut room) != b"--status".as_slice() {
-        run(&rt, 1, count);
+        run(&rt, 1..count);
         return;
     }
-    let status = run(&rt, 2, count).unwrap_or(Status::Failed);
+    let status = run(&rt, 2..count).unwrap_or(Status::Failed);
     let written = write_status(&rt, status).map_err(of_descriptor);
     files::or_tell(&rt, b"hinet: descriptor 3", written);
 }
