@@ -85,6 +85,7 @@ fn lighter(best: Option<Lightest>, i: usize, size: Option<u16>) -> Option<Lighte
     }
 }
 
+// An index stands in each contract with its bound: it is what the caller chooses.
 impl<'a> Systems<'a> {
     pub fn new(table: &'a [u8], directory: &'a [u8], wanted: u8, product: u8) -> Systems<'a>
         ensures { (result.table.now ≡ table.now) × (result.directory.now ≡ directory.now) × (result.wanted ≡ wanted) × (result.product ≡ product) }
