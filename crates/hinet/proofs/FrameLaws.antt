@@ -2,7 +2,7 @@
 -- say of every request and every slice.
 use Prim.Native.Nat.{ℕ, ◌<◌, ◌≤◌}
 use native.Mathlib.Omega.{arith}
-use mathlib.Core.Path.{◌≡◌, refl, sym, ap, subst, ◌∙◌}
+use mathlib.Core.Path.{◌≡◌, refl, sym, ap, ◌∙◌}
 use mathlib.Core.Bool.{not, ◌&&◌}
 use mathlib.Core.List.{List}
 use lib.Dec.{eqb, ltb}
@@ -43,10 +43,6 @@ unfolding written_of
 written_short q sized n = by_test (ltb n (length (frame_of q)))
     (λ y. rw y (omega arith))
     (λ m. rw (m, frame_long q q.command sized refl) (omega (arith, frame_short (code_of q.command))))
-
--- an entry writes the request that its contract names
-pub composed : {p q : Request} (b : List ℕ) {r : ℕ} {b' : List ℕ} → p ≡ q → Composes p b r b' → Composes q b r b'
-composed b {r = r} {b' = b'} e done = subst (λ (x : Request). Composes x b r b') e done
 
 -- what a reading refuses
 reading_refuses : (f : List ℕ) → (reading_of f).refusal ≡ refusal_of f

@@ -34,7 +34,7 @@ pub fn hinet_check_tables(locks: &[u8], stations: &[u8]) -> u64
     ensures { Gives (tables_word locks.now stations.now) result }
 {
     if master::tables_good(locks, stations) {
-        0
+        ().pack()
     } else {
         Refusal::BadTables.pack()
     }

@@ -168,8 +168,8 @@ fn refusal_of(answer: Result<Answer, Refused>) -> u8
     }
 }
 
-// One line of a session, put down at `at`. Its end is answered. The place stays beside the buffer, since the definition `Writes`
-// that docs/PROMISES.md names speaks of both.
+// One line of a session, put down at `at`. Its end is answered. The place stays beside the buffer: docs/PROMISES.md
+// names this function, and so its parameters stay.
 #[tactic(auto, using(crate::proofs::LineLaws::lengths), unfolding(crate::specs::Line::line_text))]
 pub fn write_line(
     buffer: &mut [u8],

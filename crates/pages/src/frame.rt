@@ -155,7 +155,7 @@ fn bits_of(text: &[u8], bits: &mut [u8]) -> usize
     let mut count: usize = 0;
     for c in text {
         if let b'0' | b'1' = *c {
-            bits[count / 8] |= (*c - b'0') << (count % 8);
+            bits[count / 8] |= u8::from(*c == b'1') << (count % 8);
             count += 1;
         }
     }

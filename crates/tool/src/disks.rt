@@ -29,7 +29,7 @@ impl Column {
 
     // The partition's kilobytes are MS-DOS's sectors, eight a kilobyte, rounded up: at size 6 it counts one too few.
     fn kilobytes(&self) -> u32 {
-        (u32::from(self.msdos.sectors) + 7) / 8
+        u32::from(self.msdos.sectors).div_ceil(8)
     }
 }
 
