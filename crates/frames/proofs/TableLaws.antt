@@ -2,7 +2,7 @@
 use Prim.Native.Nat.{ℕ}
 use native.Mathlib.Omega.{arith}
 use mathlib.Core.Path.{◌≡◌}
-use mathlib.Core.Bool.{true}
+use mathlib.Core.Bool.{true, false}
 use borrow.Author.Tests.{ne_eqb}
 use Rattle.rows.proofs.BoolLaws.{by_eq, both}
 use Rattle.frames.specs.declared.code.Code.{Code as Kind}
@@ -64,3 +64,10 @@ kind_known Logout e = omega arith
 
 pub code_known : (n : ℕ) (c : Kind) → n ≡ byte_of c → frame_length n ≡ 0 → ⊥
 code_known n c e = rw e (kind_known c)
+
+-- so a byte that is no code carries no address
+pub unknown_bare : (n : ℕ) → frame_length n ≡ 0 → carries_address n ≡ false
+unfolding carries_address
+unknown_bare n z = by_eq n READ
+    (λ e. absurd (code_known n Read e z))
+    (λ r. by_eq n WRITE (λ e. absurd (code_known n Write e z)) (λ w. rw (ne_eqb n READ r, ne_eqb n WRITE w)))

@@ -3,16 +3,13 @@ use Prim.Native.Nat.{ℕ}
 use mathlib.Core.Path.{◌≡◌, refl, sym, ap, ◌∙◌}
 use native.Mathlib.Omega.{arith}
 use mathlib.Core.List.{List}
-use lib.Dec.{eqb}
-use mathlib.Core.Bool.{cond}
 use borrow.Author.Tests.{ne_eqb}
 use Rattle.rows.proofs.BoolLaws.{by_eq}
 use Rattle.std.specs.Prelude.{Result, Ok, Err}
 use Rattle.refusals.specs.declared.Refusal.{Refusal}
 use Rattle.refusals.proofs.OutcomeLaws.{named, named_number}
 use Rattle.terms.specs.declared.Status as statuses
-use Rattle.terms.specs.declared.Status.TheVariants.{Granted, NotYours, HeldByAnother, AlreadyYours, NoRoom}
-use Rattle.terms.specs.Statuses.{byte_of}
+use Rattle.terms.proofs.StatusLaws.{status_named, status_back}
 use Rattle.site.specs.declared.Refused.{Refused}
 use Rattle.site.specs.declared.Refused.TheVariants.{Site, By}
 use Rattle.master.specs.declared.Answer.{Answer}
@@ -32,17 +29,6 @@ no_answer e = let z : ◌≡◌ {A = ℕ} 0 1 = cc in omega arith
 pub refused_no_answer : {x : Told} {a : Answered} → (refusal_number x ≡ 0 → ⊥) → x ≡ answers a → ⊥
 unfolding refusal_number
 refused_no_answer ne e = ne (ap refusal_number e)
-
--- the status of a byte
-abbrev pub status_named : ℕ → statuses.Status
-status_named b = cond (eqb b 0x00) Granted (cond (eqb b 0x01) HeldByAnother (cond (eqb b 0x02) NotYours (cond (eqb b 0x81) AlreadyYours NoRoom)))
-
-status_back : (s : statuses.Status) → status_named (byte_of s) ≡ s
-status_back Granted = refl
-status_back NotYours = refl
-status_back HeldByAnother = refl
-status_back AlreadyYours = refl
-status_back NoRoom = refl
 
 -- what an answer tells, read back
 known : Told → Result Answer Refused

@@ -28,7 +28,7 @@ use Rattle.refusals.specs.Outcomes.{refusal_in}
 use Rattle.refusals.proofs.OutcomeLaws.{number_one}
 use Rattle.master.specs.declared.Turned.{Turned}
 use Rattle.master.specs.Tables.{good_tables}
-use Rattle.master.specs.Answers.{refuses, answers, turn_was, turn_told}
+use Rattle.master.specs.Answers.{refuses, answers, turn_was, done_told, turn_told}
 use Rattle.master.specs.Polls.{station_at, with_counts, after_turn, poll_refusal, due_now, out_now, station_turn, poll_effect}
 use Rattle.master.proofs.TableLaws.{records_good, locks_good, tables_are, logout_out, logout_tables}
 use Rattle.master.proofs.Keeps.{cleared_others}
@@ -134,7 +134,18 @@ module _ (n : ℕ) (heard : Bool) (t w : List ℕ) where
     pub poll_others_have : (m : ℕ) → (m ≡ n → ⊥) → (x : LockString) → has (poll_effect n heard t w).locks m x ≡ has t m x
     poll_others_have = turn_others_have _ turn_deed
 
--- two answers that tell the same are equal, and so are any two outcomes of a poll turn
+-- two answers that tell the same are equal, and so are any two outcomes of fresh tables and of a poll turn
+pub done_told_one : (a b : Result (Unit {0}) Refusal) → done_told a ≡ done_told b → a ≡ b
+unfolding done_told
+done_told_one (Err j) (Err k) e = let same : number j ≡ number k = cc in ap Err (number_one j k same)
+done_told_one (Err j) (Ok b) e = absurd (no_answer e)
+done_told_one (Ok a) (Err k) e = absurd (no_answer (sym e))
+done_told_one (Ok a) (Ok b) e = refl
+
+pub fresh_one : {A : Type 0} {e : Effect A} {r r' : Result (Unit {0}) Refusal} {t₁ t₂ : List ℕ} {w₁ w₂ : A} → Does e (done_told r) t₁ w₁ → Does e (done_told r') t₂ w₂
+    → (r ≡ r') × (t₁ ≡ t₂) × (w₁ ≡ w₂)
+fresh_one a b = let one = does_one a b in (done_told_one _ _ one.0, one.1, one.2)
+
 pub turn_told_one : (a b : Result Turned Refusal) → turn_told a ≡ turn_told b → a ≡ b
 unfolding turn_told
 turn_told_one (Err j) (Err k) e = let same : number j ≡ number k = cc in ap Err (number_one j k same)

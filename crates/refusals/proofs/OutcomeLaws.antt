@@ -4,7 +4,7 @@ use Rattle.std.specs.Prelude.{Result, Ok, Err}
 use Rattle.refusals.specs.declared.Refusal.{Refusal}
 use Rattle.refusals.specs.declared.Refusal.TheVariants.{EmptyFrame, NobodysNumber, UnknownCode, WrongLength, Misplaced, WrongDtn, WrongSource, NoSuchPartition, OutsidePartition, BadSiteFile, BadTables, HeardTooEarly, ShortBuffer, StillWaiting, UnfitReply, NoSuchSize, DataTooLong, NoFlag, SevenOnes, NoWholeBytes, TooFewBytes, WrongCheck, BadBootTables}
 use Rattle.refusals.specs.Refusals.{number}
-use Rattle.refusals.specs.Outcomes.{GivesUnless, LeavesUnless}
+use Rattle.refusals.specs.Outcomes.{refusal_in, GivesUnless, LeavesUnless}
 
 abbrev in_order : List Refusal
 in_order = EmptyFrame ∷ NobodysNumber ∷ UnknownCode ∷ WrongLength ∷ Misplaced ∷ WrongDtn ∷ WrongSource ∷ NoSuchPartition ∷ OutsidePartition ∷ BadSiteFile ∷ BadTables ∷ HeardTooEarly ∷ ShortBuffer ∷ StillWaiting ∷ UnfitReply ∷ NoSuchSize ∷ DataTooLong ∷ NoFlag ∷ SevenOnes ∷ NoWholeBytes ∷ TooFewBytes ∷ WrongCheck ∷ BadBootTables ∷ []
@@ -51,6 +51,13 @@ gives_unless_one k value (Ok a) (Ok b) x y = ap Ok (x.1 ∙ sym y.1)
 gives_unless_one k value (Ok a) (Err s) x y = absurd (number_never_0 s (sym y ∙ x.0))
 gives_unless_one k value (Err r) (Ok b) x y = absurd (number_never_0 r (sym x ∙ y.0))
 gives_unless_one k value (Err r) (Err s) x y = ap Err (number_one r s (sym x ∙ y))
+
+-- where nothing else is answered, the number of the refusal is the answer
+pub refusal_in_one : (r s : Result (Unit {0}) Refusal) → refusal_in r ≡ refusal_in s → r ≡ s
+refusal_in_one (Ok u) (Ok v) e = refl
+refusal_in_one (Ok u) (Err s) e = absurd (number_never_0 s (sym e))
+refusal_in_one (Err r) (Ok v) e = absurd (number_never_0 r e)
+refusal_in_one (Err r) (Err s) e = ap Err (number_one r s e)
 
 pub leaves_unless_one : {A : Type 0} {k : ℕ} {value : A} {bytes t u : List ℕ} (r s : Result A Refusal) → LeavesUnless k value bytes r t → LeavesUnless k value bytes s u → (r ≡ s) × (t ≡ u)
 leaves_unless_one r s x y = (gives_unless_one _ _ r s x.answer y.answer, x.left ∙ sym y.left)
