@@ -72,18 +72,22 @@
  * Stack
  *   Bytes that an entry needs on its deepest path, measured by bench/stack
  *   (memcpy and the like not counted):
- *     hinet_poll                                                1616
- *     hinet_line_frame                                           968
- *     hinet_line_read                                            872
- *     hinet_boot                                                 648
- *     hinet_line_write                                           616
- *     hinet_frame                                                528
+ *     hinet_poll                                                1488
+ *     hinet_boot                                                 744
+ *     hinet_line_frame                                           688
+ *     hinet_frame                                                576
  *     hinet_place                                                336
- *     hinet_station_frame, _unlock, _reply                       320
- *     hinet_check_site, hinet_due, hinet_station_lock            288
- *     hinet_check_tables, hinet_station_clear                    256
- *     hinet_cpm_parameters, hinet_msdos_parameters               132
- *     hinet_write_..., hinet_read_frame                          120
+ *     hinet_check_site                                           288
+ *     hinet_station_unlock, _reply                               272
+ *     hinet_station_frame                                        240
+ *     hinet_station_lock                                         224
+ *     hinet_due, hinet_station_clear                             208
+ *     hinet_check_tables                                         192
+ *     hinet_line_read                                            152
+ *     hinet_read_frame                                           120
+ *     hinet_cpm_parameters, hinet_msdos_parameters               116
+ *     hinet_write_...                                             88
+ *     hinet_line_write                                            80
  *     hinet_fresh, hinet_station_fresh                            24
  */
 #ifndef HINET_H
