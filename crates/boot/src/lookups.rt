@@ -57,6 +57,7 @@ pub fn seven_bits(number: u8) -> u8
 }
 
 // Row i has the name of this pattern, and the password.
+#[tactic(auto, unfolding(crate::specs::Tables::user_rows))]
 fn is_user(users: &[u8], i: usize, pattern: Pattern, password: &[u8]) -> bool
     requires { i < user_rows users.now }
     ensures { result ≡ (matches (part users.now (16 * i) 8) pattern && same (part users.now (16 * i + 8) 6) password.now) }

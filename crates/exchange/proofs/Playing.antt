@@ -1,19 +1,20 @@
 -- Every run can be played: whatever the rules tell is what some answer of an entry tells.
-use Prim.Native.Nat.{ℕ, ◌<◌}
+use Prim.Native.Nat.{ℕ, suc, ◌-◌, ◌<◌}
 use native.Mathlib.Omega.{arith}
-use mathlib.Core.Path.{◌≡◌, refl, sym}
+use mathlib.Core.Path.{◌≡◌, refl, sym, subst}
 use mathlib.Core.Bool.{Bool, true, false, not, ◌&&◌, ◌||◌}
 use mathlib.Core.List.{List}
 use lib.Dec.{eqb}
-use borrow.Author.Tests.{ne_eqb}
+use borrow.Author.Tests.{eqb-true, ne_eqb}
 use Rattle.rows.specs.Rows.{copies}
 use Rattle.rows.specs.Numbers.{low_first}
 use Rattle.rows.proofs.BoolLaws.{by_test, by_eq, either}
-use Rattle.rows.specs.Words.{any}
+use Rattle.rows.proofs.IndexLaws.{all_at}
+use Rattle.rows.specs.Words.{all, any}
 use Rattle.std.specs.Prelude.{Ok, Err}
 use Rattle.refusals.specs.declared.Refusal.{Refusal}
-use Rattle.refusals.specs.declared.Refusal.TheVariants.{EmptyFrame, NobodysNumber, UnknownCode, WrongLength, Misplaced, WrongDtn, WrongSource, NoSuchPartition, OutsidePartition, BadSiteFile, BadTables, HeardTooEarly}
 use Rattle.refusals.specs.Refusals.{number}
+use Rattle.refusals.proofs.OutcomeLaws.{named}
 use Rattle.terms.specs.declared.Address.{Address}
 use Rattle.terms.specs.declared.LockString.{LockString}
 use Rattle.terms.specs.declared.Status as statuses
@@ -53,20 +54,10 @@ record Given {A : Type 0} (tell : A → Told) (x : Told) : Type 0 where
 
 -- a refusal of the master has a name, and so has what a lock or an unlock comes to
 refusal_named : (k : ℕ) → (k ≡ 0 → ⊥) → k < 13 → (r : Refusal) × (number r ≡ k)
+unfolding all
 refusal_named k some low =
-    by_eq k 1 (λ e. (EmptyFrame, sym e)) λ n1.
-    by_eq k 2 (λ e. (NobodysNumber, sym e)) λ n2.
-    by_eq k 3 (λ e. (UnknownCode, sym e)) λ n3.
-    by_eq k 4 (λ e. (WrongLength, sym e)) λ n4.
-    by_eq k 5 (λ e. (Misplaced, sym e)) λ n5.
-    by_eq k 6 (λ e. (WrongDtn, sym e)) λ n6.
-    by_eq k 7 (λ e. (WrongSource, sym e)) λ n7.
-    by_eq k 8 (λ e. (NoSuchPartition, sym e)) λ n8.
-    by_eq k 9 (λ e. (OutsidePartition, sym e)) λ n9.
-    by_eq k 10 (λ e. (BadSiteFile, sym e)) λ n10.
-    by_eq k 11 (λ e. (BadTables, sym e)) λ n11.
-    by_eq k 12 (λ e. (HeardTooEarly, sym e)) λ n12.
-    absurd (omega arith)
+    let keeps = all_at (λ i. eqb (number (named (suc i))) (suc i)) 12 (k - 1) refl (omega (arith, some, low)) in
+    (named k, subst (λ (n : ℕ). number (named n) ≡ n) (omega (arith, some)) (eqb-true _ _ keeps))
 
 lock_named : (t : List ℕ) (n : ℕ) (x : LockString) → (s : statuses.Status) × (byte_of s ≡ lock_status t n x)
 unfolding lock_status

@@ -184,6 +184,7 @@ impl<'a> Partitions<'a> {
     }
 
     // The first fault of the rows: where rows were taken away, the last rule that took some took them from the least row on.
+    #[tactic(auto, using(crate::proofs::FaultLaws::fewer))]
     pub fn check(&self) -> Result<(), Fault>
         requires { self.now.count ≤ 64 }
         ensures { result ≡ checked_partitions self.now.file.now }

@@ -1,8 +1,8 @@
-use mathlib.Core.Path.{ap, ◌∙◌}
-use mathlib.Core.List.{List, []}
+use mathlib.Core.List.{List}
 use Prim.Native.Nat.{ℕ}
-use lib.ListN.{get_or, get_or-map}
+use lib.ListN.{get_or}
 use Rattle.params.specs.declared.CpmBlock.{CpmBlock}
+use Rattle.params.proofs.TableLaws.{by_row}
 use Rattle.params.specs.Tables.{cpm_table}
 use Rattle.params.specs.Blocks.{cpm_of, cpm_block}
 use Rattle.params.specs.declared.cpm.CpmRow.{CpmRow}
@@ -37,7 +37,6 @@ block_of row = record {
   off = row.9;
 }
 
--- the code's table is that of the rules, row by row
 pub returns : goal.returns
 unfolding cpm_table cpm_of cpm_block
-returns c = ap block_of (get_or-map row_of cpm_table c.row_of.result []) ∙ ap (λ (i : ℕ). cpm_of (get_or cpm_table i [])) c.row_of.ensures.0
+returns c = by_row row_of block_of cpm_table _ _ c.row_of.ensures.0

@@ -1,8 +1,8 @@
-use mathlib.Core.Path.{ap, ◌∙◌}
-use mathlib.Core.List.{List, []}
+use mathlib.Core.List.{List}
 use Prim.Native.Nat.{ℕ}
-use lib.ListN.{get_or, get_or-map}
+use lib.ListN.{get_or}
 use Rattle.params.specs.declared.MsdosBlock.{MsdosBlock}
+use Rattle.params.proofs.TableLaws.{by_row}
 use Rattle.params.specs.Tables.{msdos_table}
 use Rattle.params.specs.Blocks.{msdos_of, msdos_block}
 use Rattle.params.specs.declared.msdos.MsdosRow.{MsdosRow}
@@ -35,7 +35,6 @@ block_of row = record {
   sectors_per_track = row.8;
 }
 
--- the code's table is that of the rules, row by row
 pub returns : goal.returns
 unfolding msdos_table msdos_of msdos_block
-returns c = ap block_of (get_or-map row_of msdos_table c.row_of.result []) ∙ ap (λ (i : ℕ). msdos_of (get_or msdos_table i [])) c.row_of.ensures.0
+returns c = by_row row_of block_of msdos_table _ _ c.row_of.ensures.0
