@@ -1,5 +1,6 @@
 // The frame table: the code of each command, and the length of its frame.
 ghost use Rattle.std.specs.Prelude.{◌≡◌};
+ghost use Rattle.rows.specs.Outcomes.{Gives};
 ghost use Rattle.frames.specs.Codes.{byte_of, Decodes};
 ghost use Rattle.frames.specs.Table.{frame_length, carries_address};
 
@@ -87,5 +88,26 @@ impl Code {
             Code::Read | Code::Write => true,
             _ => false,
         }
+    }
+}
+
+// The length of the frame that begins with this byte, or 0 for a byte that is no code.
+pub fn frame_length(code: u8) -> usize
+    ensures { Gives (frame_length code) result }
+{
+    match Code::try_from(code) {
+        Ok(code) => code.frame_length(),
+        Err(_) => 0,
+    }
+}
+
+// A frame that begins with this byte has dtn, src and an address. One that begins with no code has none.
+#[tactic(auto, using(crate::proofs::TableLaws::unknown_bare))]
+pub fn has_address(code: u8) -> bool
+    ensures { Gives (carries_address code) result }
+{
+    match Code::try_from(code) {
+        Ok(code) => code.has_address(),
+        Err(_) => false,
     }
 }
