@@ -10,11 +10,12 @@ use lib.Dec.{ltb}
 use mathlib.Core.Logic.{inl, inr, ⊎_elim}
 use Rattle.rows.specs.Words.{any, first, smallest}
 use Rattle.rows.proofs.BoolLaws.{by_test, and_left, and_fails, contra}
-use Rattle.rows.proofs.IndexLaws.{any_at, first_found, found_if, missing_if, search_on}
+use Rattle.rows.proofs.IndexLaws.{any_at, none_from, first_found, found_if, missing_if, search_on}
 use Rattle.rows.proofs.SmallestLaws.{Smallest, SmallestSoFar, so_far_takes, so_far_stays, so_far_ends, smallest_below}
 use Rattle.boot.specs.declared.systems.Lightest.{Lightest}
 use Rattle.boot.specs.Tables.{Tables, product_number, machine_options, login_please, os_menu, wanted_os, wants_small, user_of, user_known, no_configuration, configuration}
-use Rattle.boot.specs.Systems.{system_rows, load_list, fits, system_size, fits_exactly}
+use Rattle.directory.specs.Directory.{files, in_directory}
+use Rattle.boot.specs.Systems.{system_rows, load_list, suits, fits, system_size, fits_exactly}
 use Rattle.boot.specs.Choice.{choice_of, fitting, exact, exact_of, smallest_of, chosen_for, chosen}
 use Rattle.boot.specs.Block.{configuration_of}
 use Rattle.boot.specs.Inner.{Weighs, lighter, smallest_choice, choice_among}
@@ -51,6 +52,23 @@ module _ (t dir : List ℕ) (wanted product : ℕ) (menu : List ℕ) where
     pub exact_missed : system_rows t ≡ first (fits_exactly t dir wanted product options) (system_rows t) → smallest_choice t dir wanted product menu ≡ choice_among t dir wanted product options false menu
     unfolding choice_among
     exact_missed e = rw (missing_if (fits_exactly t dir wanted product options) (system_rows t) (le_of_eq e))
+
+-- where the directory has no file none fits
+module _ (t dir : List ℕ) (wanted product : ℕ) (empty : files dir ≡ 0) where
+  misfit : (i : ℕ) → fits t dir wanted product i ≡ false
+  unfolding fits in_directory any
+  misfit i = and_fails (suits t wanted product i) _ (rw empty)
+
+  none_fits : any (fits t dir wanted product) (system_rows t) ≡ false
+  none_fits = none_from (fits t dir wanted product) (system_rows t) (λ i l. misfit i)
+
+  none_fits_exactly : (options : List ℕ) → any (fits_exactly t dir wanted product options) (system_rows t) ≡ false
+  unfolding fits_exactly
+  none_fits_exactly options = none_from (fits_exactly t dir wanted product options) (system_rows t) (λ i l. rw (misfit i))
+
+  pub menu_alone : (options menu : List ℕ) (small : Bool) → choice_of 3 menu ≡ choice_among t dir wanted product options small menu
+  unfolding choice_among smallest_choice
+  menu_alone options menu small = rw (and_fails (not small) _ (none_fits_exactly options), none_fits)
 
 -- ---- the lightest so far, in a loop over the systems
 

@@ -23,11 +23,12 @@ pub struct Systems<'a> {
     ghost bytes: { (k : ℕ) → slice_index directory.now k < 256 },
 }
 
-// A system that fits, by its row, and the length of its file.
+// A system that fits, by its row, and the length of its file. Both as wide, so that a loop carries it in registers: with a size of
+// two bytes it went through the stack for each system.
 #[derive(Clone, Copy)]
 struct Lightest {
     row: usize,
-    size: u16,
+    size: usize,
 }
 
 // A system of this number is the one wanted: the kind matches, and the one of its kind does or is not asked for.
@@ -74,8 +75,12 @@ fn lighter(best: Option<Lightest>, i: usize, size: Option<u16>) -> Option<Lighte
 {
     match (best, size) {
         (best, None) => best,
-        (None, Some(size)) => Some(Lightest { row: i, size }),
+        (None, Some(size)) => Some(Lightest {
+            row: i,
+            size: usize::from(size),
+        }),
         (Some(b), Some(size)) => {
+            let size = usize::from(size);
             if size < b.size {
                 Some(Lightest { row: i, size })
             } else {
@@ -157,15 +162,16 @@ impl<'a> Systems<'a> {
         None
     }
 
-    // The smallest system that fits, the lower row on a tie.
+    // The smallest system that fits, the lower row on a tie. The loop reads a copy of what the systems are, which stays in registers.
     #[tactic(auto, unfolding(crate::specs::Systems::system_rows))]
     fn find_smallest(&self) -> Option<usize>
         ensures { Finds (system_rows self.now.table.now) (smallest (fits self.now.table.now self.now.directory.now self.now.wanted self.now.product) (system_size self.now.table.now self.now.directory.now) (system_rows self.now.table.now)) result }
     {
+        let systems = *self;
         let n = self.table.len() / lookups::SYSTEM;
         let mut best: Option<Lightest> = None;
         for i in 0..n {
-            best = lighter(best, i, self.size_of(i));
+            best = lighter(best, i, systems.size_of(i));
         }
         match best {
             Some(b) => Some(b.row),
@@ -189,10 +195,17 @@ impl<'a> Systems<'a> {
         }
     }
 
-    // The system that a user gets, by its load list: the exact one where he has full service, or else the smallest.
+    // The system that a user gets, by its load list: the exact one where he has full service, or else the smallest. Where the directory
+    // has no file none fits, and no row is looked at.
     pub(crate) fn choose(&self, options: &[u8], small: bool, menu: &'a [u8; 8]) -> Choice<'a>
         ensures { (names_of result ≡ choice_among self.now.table.now self.now.directory.now self.now.wanted self.now.product options.now small menu.now) × (length result.names.now ≤ 64) }
     {
+        if directory::count(self.directory) == 0 {
+            return Choice {
+                honor: Honor::Menu,
+                names: menu,
+            };
+        }
         if small {
             return self.choose_smallest(menu);
         }
