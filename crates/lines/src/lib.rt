@@ -2,7 +2,7 @@
 #![tactic(auto)]
 
 ghost use Rattle.std.specs.Prelude.{◌≡◌, List, ℕ, [], ◌∷◌, ◌++◌, ◌+◌, ◌≤◌, ◌<◌, length};
-ghost use Rattle.master.specs.Answers.{told, refusal_number};
+ghost use Rattle.master.specs.Answers.{told, refuses, answers, status_byte, refusal_number};
 ghost use Rattle.lines.specs.Line.{digit as digit_of, decimal, hex_byte, yes_or_no, answer_text, column, columns, line_text, COLON, ROOM, Writes};
 
 use arrayvec::ArrayVec;
@@ -155,6 +155,16 @@ impl Line {
             Ok(Answer::LoggedIn { number, found, .. }) => self.login(number, found),
         }
     }
+
+    // Puts the line down at `at`, and answers its end.
+    fn put(&self, buffer: &mut [u8], at: usize) -> usize
+        requires { at + length self.now ≤ length buffer.old }
+        ensures { Writes self.now buffer.old at result buffer.new }
+    {
+        let text = self.text.as_slice();
+        rows::put(buffer, at, text);
+        at + text.len()
+    }
 }
 
 // The refusal of an answer, 0 for none: that is what the column of a line shows.
@@ -185,7 +195,31 @@ pub fn write_line(
     line.columns(index, number, refusal_of(answer));
     line.answer(answer);
     line.byte(b'\n');
-    let text = line.text.as_slice();
-    rows::put(buffer, at, text);
-    at + text.len()
+    line.put(buffer, at)
+}
+
+// A line whose answer is a refusal by this number, which need not be one of the rules'.
+#[tactic(auto, using(crate::proofs::LineLaws::lengths), unfolding(crate::specs::Line::line_text, crate::specs::Line::answer_text, master::specs::Answers::refusal_number))]
+pub fn write_refused(buffer: &mut [u8], at: usize, index: u64, number: u8, refusal: u8) -> usize
+    requires { at + ROOM ≤ length buffer.old }
+    ensures { Writes (line_text index number (refuses refusal)) buffer.old at result buffer.new }
+{
+    let mut line = Line::new();
+    line.columns(index, number, refusal);
+    line.byte(b'-');
+    line.byte(b'\n');
+    line.put(buffer, at)
+}
+
+// A line whose answer is this byte as a status, which need not be one of the rules'.
+#[tactic(auto, using(crate::proofs::LineLaws::lengths), unfolding(crate::specs::Line::line_text, crate::specs::Line::answer_text, crate::specs::Line::hex_byte, master::specs::Answers::refusal_number))]
+pub fn write_status(buffer: &mut [u8], at: usize, index: u64, number: u8, status: u8) -> usize
+    requires { at + ROOM ≤ length buffer.old }
+    ensures { Writes (line_text index number (answers (status_byte status))) buffer.old at result buffer.new }
+{
+    let mut line = Line::new();
+    line.columns(index, number, 0);
+    line.hex(status);
+    line.byte(b'\n');
+    line.put(buffer, at)
 }
