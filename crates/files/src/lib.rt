@@ -81,19 +81,23 @@ pub fn read_more<R: Read>(reader: &mut R, input: &mut [u8], kept: usize) -> io::
     Ok(kept + more)
 }
 
-// Reads to the end, or until there is no more room. A read goes on where the one before it ended, so the loop counts nothing.
-fn read_whole<R: Read>(reader: &mut R, file: &mut [u8]) -> io::Result<usize>
-    ensures { IfOk result (λ n. IsPrefixLen n file.new) }
+// Reads to the end, or until there is no more room, and answers how far that got, also where a read failed. A read goes on where the
+// one before it ended, so the loop counts nothing.
+fn read_whole<R: Read>(reader: &mut R, file: &mut [u8]) -> (usize, io::Result<()>)
+    ensures { IsPrefixLen result.0 file.new }
 {
     let mut n: usize = 0;
     while n < file.len() {
-        let end = read_more(reader, file, n)?;
+        let end = match read_more(reader, file, n) {
+            Ok(end) => end,
+            Err(error) => return (n, Err(error)),
+        };
         if end == n {
-            return Ok(n);
+            return (n, Ok(()));
         }
         n = end;
     }
-    Ok(n)
+    (n, Ok(()))
 }
 
 // Opens the file at this path.
@@ -102,9 +106,12 @@ fn open<R: Files>(rt: &R, path: &[u8]) -> io::Result<R::File> {
     File::open(rt, text)
 }
 
-// Reads the file at this path to its end, or until there is no more room, and answers how long it is.
-pub fn read_file<R: Files>(rt: &R, path: &[u8], file: &mut [u8]) -> io::Result<usize>
-    ensures { IfOk result (λ n. IsPrefixLen n file.new) }
+// Reads the file at this path to its end, or until there is no more room, and answers how far that got, also where it failed.
+pub fn read_file<R: Files>(rt: &R, path: &[u8], file: &mut [u8]) -> (usize, io::Result<()>)
+    ensures { IsPrefixLen result.0 file.new }
 {
-    read_whole(&mut open(rt, path)?, file)
+    match open(rt, path) {
+        Ok(mut opened) => read_whole(&mut opened, file),
+        Err(error) => (0, Err(error)),
+    }
 }

@@ -26,8 +26,11 @@ fn say<R: Print + Errors>(rt: &R, text: &[u8]) -> bool {
 fn read_site<R: Files + Errors>(rt: &R, file: &mut [u8]) -> usize
     ensures { IsPrefixLen result file.new }
 {
-    let read = files::read_file(rt, b"site.bin", file);
-    files::or_tell(rt, b"session: site.bin", read).unwrap_or(0)
+    let (n, read) = files::read_file(rt, b"site.bin", file);
+    match files::or_tell(rt, b"session: site.bin", read) {
+        Some(()) => n,
+        None => 0,
+    }
 }
 
 // One block: reads, plays what is whole, writes the lines and keeps the rest, whose length is answered. None where there is
