@@ -3,7 +3,7 @@
 // parentheses, and behind a semicolon what it is.
 ghost use Rattle.std.specs.Prelude.{◌≡◌, ◌+◌, ◌*◌, ◌≤◌, ◌<◌, length};
 
-use crate::{Page, Shown};
+use crate::{Page, Shown, digit};
 use hex::FromHexError;
 use refusals::Refusal;
 use std::error::Error;
@@ -76,16 +76,15 @@ impl Part {
             _ => Part::Data,
         }
     }
-}
 
-impl fmt::Display for Part {
-    fn fmt<W: fmt::Write>(&self, f: &mut fmt::Formatter<W>) -> fmt::Result {
-        f.pad(match self {
-            Part::Flag => "flag",
-            Part::User => "user",
-            Part::Data => "data",
-            Part::Check => "check",
-        })
+    // Its row, with room for the bits and the byte. Put down whole, since a row that `write!` made took twice the time.
+    fn row(self) -> [u8; 26] {
+        match self {
+            Part::Flag => *b"               ; flag  00\n",
+            Part::User => *b"               ; user  00\n",
+            Part::Data => *b"               ; data  00\n",
+            Part::Check => *b"               ; check 00\n",
+        }
     }
 }
 
@@ -120,7 +119,7 @@ impl Walk<'_> {
         let mut byte: u8 = 0;
         for k in 0..8u8 {
             let bit = self.next_bit();
-            write!(column, "{bit}");
+            column.append(&[b'0' + bit]);
             byte |= bit << k;
             if bit == 0 {
                 self.ones = 0;
@@ -129,7 +128,7 @@ impl Walk<'_> {
             } else {
                 self.ones = 0;
                 if inside {
-                    write!(column, "({})", self.next_bit());
+                    column.append(&[b'(', b'0' + self.next_bit(), b')']);
                 }
             }
         }
@@ -139,12 +138,14 @@ impl Walk<'_> {
     // Tells the next byte, which is this part, on a row.
     fn append_row(&mut self, page: &mut Page, part: Part)
         requires { self.old.place < 2000000 }
-        ensures { (self.old.place + 8 ≤ self.new.place) × (self.new.place ≤ self.old.place + 16) }
+        ensures room { page.new.room.ghost_name ≡ page.old.room.ghost_name }
+        ensures steps { (self.old.place + 8 ≤ self.new.place) × (self.new.place ≤ self.old.place + 16) }
     {
-        let mut column = [b' '; COLUMN];
-        let byte = self.append_bits(&mut Page::new(&mut column), part != Part::Flag);
-        page.append(&column);
-        writeln!(page, "; {part:<5} {byte:02X}");
+        let mut row = part.row();
+        let byte = self.append_bits(&mut Page::new(&mut row[..COLUMN]), part != Part::Flag);
+        row[23] = digit(byte / 16);
+        row[24] = digit(byte % 16);
+        page.append(&row);
     }
 }
 
@@ -165,6 +166,7 @@ fn bits_of(text: &[u8], bits: &mut [u8]) -> usize
 // Tells a frame's rows, flags and check among them, and answers how many of its bits are zeros that were put in.
 fn append_rows(page: &mut Page, bits: &[u8], rows: usize) -> usize
     requires { rows < 100000 }
+    ensures { page.new.room.ghost_name ≡ page.old.room.ghost_name }
 {
     let mut walk = Walk {
         bits,
@@ -180,6 +182,7 @@ fn append_rows(page: &mut Page, bits: &[u8], rows: usize) -> usize
 // Writes a frame, and tells its bits.
 fn append_frame(page: &mut Page, user: u8, data: &[u8]) -> Result<(), Refusal>
     requires { length «data».now ≤ 16384 }
+    ensures { page.new.room.ghost_name ≡ page.old.room.ghost_name }
 {
     let mut bits = [0u8; BITS];
     let count = framing::write(user, data, &mut bits)?;
@@ -191,6 +194,7 @@ fn append_frame(page: &mut Page, user: u8, data: &[u8]) -> Result<(), Refusal>
 // Writes the frame whose user number and data a text has in hex, and tells its bits.
 pub fn append_written(page: &mut Page, text: &[u8]) -> Result<(), Unfit>
     requires { length text.now ≤ 16384 }
+    ensures { page.new.room.ghost_name ≡ page.old.room.ghost_name }
 {
     let mut room = [0u8; BYTES];
     let bytes = &mut room[..text.len() / 2];
@@ -203,7 +207,9 @@ pub fn append_written(page: &mut Page, text: &[u8]) -> Result<(), Unfit>
 }
 
 // Tells what was read: user number, length, and the data in hex and as text.
-fn append_reading(page: &mut Page, user: u8, data: &[u8]) {
+fn append_reading(page: &mut Page, user: u8, data: &[u8])
+    ensures { page.new.room.ghost_name ≡ page.old.room.ghost_name }
+{
     write!(page, "user {user}\nlength {}\ndata", data.len());
     page.append_hex(data);
     writeln!(page, "\ntext {}", Shown(data));
@@ -212,6 +218,7 @@ fn append_reading(page: &mut Page, user: u8, data: &[u8]) {
 // Reads the frame whose bits a text has, and tells what was read.
 pub fn append_read(page: &mut Page, text: &[u8]) -> Result<(), Unfit>
     requires { length text.now ≤ 16384 }
+    ensures { page.new.room.ghost_name ≡ page.old.room.ghost_name }
 {
     let mut bits = [0u8; BITS];
     let count = bits_of(text, &mut bits);

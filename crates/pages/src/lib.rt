@@ -8,6 +8,13 @@ ghost use Rattle.std.specs.Prelude.{◌≡◌, ◌+◌, ◌≤◌, ◌<◌, ◌+
 use std::fmt;
 use std::fmt::Write;
 
+// The capital digit of a value below 16. By hand: a frame of 1,024 bytes by `{:02X}` took half as many instructions again to tell.
+fn digit(d: u8) -> u8
+    requires { d < 16 }
+{
+    if d < 10 { b'0' + d } else { b'A' + (d - 10) }
+}
+
 // Lent bytes, and how many of them have text so far.
 #[derive(Drop)]
 pub struct Page<'a> {
@@ -19,7 +26,8 @@ pub struct Page<'a> {
 impl<'a> Page<'a> {
     // A page without text.
     pub fn new(room: &'a mut [u8]) -> Page<'a>
-        ensures { (result.end ≡ 0) × (result.room.now ≡ room.old) }
+        ensures text { (result.end ≡ 0) × (result.room.now ≡ room.old) }
+        ensures same_room { result.room.ghost_name ≡ room.entry.ghost_name }
     {
         Page { room, end: 0 }
     }
@@ -33,9 +41,12 @@ impl<'a> Page<'a> {
 
     // Puts bytes down behind the text, or nothing where they do not fit.
     pub fn append(&mut self, bytes: &[u8])
+        ensures stays { take self.old.end self.new.room.now ≡ take self.old.end self.old.room.now }
+        ensures further { self.old.end ≤ self.new.end }
         ensures fits { self.old.end + length bytes.now ≤ length self.old.room.now → take self.new.end self.new.room.now ≡ take self.old.end self.old.room.now ++ bytes.now }
         ensures full { length self.old.room.now < self.old.end + length bytes.now → take self.new.end self.new.room.now ≡ take self.old.end self.old.room.now }
         ensures room { length self.new.room.now ≡ length self.old.room.now }
+        ensures same_room { self.new.room.ghost_name ≡ self.old.room.ghost_name }
     {
         if self.room.len() - self.end < bytes.len() {
             return;
@@ -46,15 +57,30 @@ impl<'a> Page<'a> {
     }
 
     // Puts bytes down in hex, each behind a space.
-    pub fn append_hex(&mut self, bytes: &[u8]) {
+    pub fn append_hex(&mut self, bytes: &[u8])
+        ensures stays { take self.old.end self.new.room.now ≡ take self.old.end self.old.room.now }
+        ensures further { self.old.end ≤ self.new.end }
+        ensures room { length self.new.room.now ≡ length self.old.room.now }
+        ensures same_room { self.new.room.ghost_name ≡ self.old.room.ghost_name }
+    {
         for byte in bytes {
-            write!(self, " {byte:02X}");
+            self.append(&[b' ', digit(*byte / 16), digit(*byte % 16)]);
         }
     }
 
-    // What `write!` calls. It has no answer, since what does not fit is left out and is no error.
-    pub fn write_fmt(&mut self, text: impl fmt::Display + Drop) {
-        let _ = Write::write(self, text);
+    // What `write!` calls: the text goes behind the one that stands. It has no answer, since what does not fit is left out and is no
+    // error.
+    pub fn write_fmt(&mut self, text: impl fmt::Display + Drop)
+        ensures stays { take self.old.end self.new.room.now ≡ take self.old.end self.old.room.now }
+        ensures further { self.old.end ≤ self.new.end }
+        ensures room { length self.new.room.now ≡ length self.old.room.now }
+        ensures same_room { self.new.room.ghost_name ≡ self.old.room.ghost_name }
+    {
+        let left = self.room.len() - self.end;
+        let mut rest = Page::new(&mut self.room[self.end..]);
+        let _ = Write::write(&mut rest, text);
+        let more = rest.end;
+        self.end += more.min(left);
     }
 }
 
