@@ -2,7 +2,8 @@
 // told with the name that the directory has for it. What stands in the block, the crate that chose it alone says.
 #![tactic(auto)]
 
-ghost use Rattle.std.specs.Prelude.{◌≤◌, length};
+ghost use Rattle.std.specs.Prelude.{◌≡◌, ◌≤◌, length};
+ghost use Rattle.boot.specs.Honors.{flag_of};
 
 use boot::Honor;
 use pages::{Count, Page, Shown};
@@ -28,13 +29,27 @@ const NAME: usize = 8;
 
 const MOST: usize = 31;
 
-// Tells a refusal: the number, and what it means. The buffer is the block's.
-pub fn append_refused(page: &mut Page, refusal: Refusal) {
-    match refusal {
-        Refusal::ShortBuffer => {
-            writeln!(page, "refused 13: the buffer is too short for the block");
-        }
-        _ => writeln!(page, "refused {}: {refusal}", refusal.number()),
+// Tells a refusal by its number, 23 or another, and what it means. The buffer is the block's. A number and no `Refusal`, so that it
+// takes any.
+pub fn append_refused(page: &mut Page, number: u8)
+    ensures { page.new.room.ghost_name ≡ page.old.room.ghost_name }
+{
+    match number {
+        23 => writeln!(page, "refused 23: {}", Refusal::BadBootTables),
+        _ => writeln!(page, "refused 13: the buffer is too short for the block"),
+    }
+}
+
+// The honor that a flag stands for: any above 3 for Nothing.
+fn honor_of(flag: u8) -> Honor
+    ensures { flag ≤ 4 → flag_of result ≡ flag }
+{
+    match flag {
+        0 => Honor::Exact,
+        1 => Honor::Smallest,
+        2 => Honor::LoginPlease,
+        3 => Honor::Menu,
+        _ => Honor::Nothing,
     }
 }
 
@@ -65,7 +80,9 @@ fn unpadded(name: &[u8]) -> &[u8]
 }
 
 // Tells a drive, on a line.
-fn append_drive(page: &mut Page, letter: char, name: &[u8]) {
+fn append_drive(page: &mut Page, letter: char, name: &[u8])
+    ensures { page.new.room.ghost_name ≡ page.old.room.ghost_name }
+{
     match unpadded(name) {
         [] => writeln!(page, "drive {letter}: none"),
         name => writeln!(page, "drive {letter}: {}", Shown(name)),
@@ -73,7 +90,9 @@ fn append_drive(page: &mut Page, letter: char, name: &[u8]) {
 }
 
 // Tells the type-ahead: its length, and its text.
-fn append_typed(page: &mut Page, block: &[u8; 194]) {
+fn append_typed(page: &mut Page, block: &[u8; 194])
+    ensures { page.new.room.ghost_name ≡ page.old.room.ghost_name }
+{
     let n = usize::from(block[LENGTH]);
     if n == 0 {
         writeln!(page, "type-ahead: none");
@@ -84,7 +103,9 @@ fn append_typed(page: &mut Page, block: &[u8; 194]) {
 }
 
 // Tells what stands in the block before the load entries, but for the flag.
-fn append_setting(page: &mut Page, block: &[u8; 194]) {
+fn append_setting(page: &mut Page, block: &[u8; 194])
+    ensures { page.new.room.ghost_name ≡ page.old.room.ghost_name }
+{
     for (letter, name) in ['A', 'B', 'C', 'D'].iter().zip(block.chunks_exact(NAME)) {
         append_drive(page, *letter, name);
     }
@@ -101,14 +122,18 @@ fn name_of<'a>(directory: &'a [u8], entry: &[u8; ENTRY]) -> Option<&'a [u8; NAME
 }
 
 // Tells the name that the directory has for a load entry, at the left of a column of eight.
-fn append_name(page: &mut Page, directory: &[u8], entry: &[u8; ENTRY]) {
+fn append_name(page: &mut Page, directory: &[u8], entry: &[u8; ENTRY])
+    ensures { page.new.room.ghost_name ≡ page.old.room.ghost_name }
+{
     let name = unpadded(name_of(directory, entry).unwrap_or(b"?       "));
     write!(page, "{}", Shown(name));
     page.append(&[b' '; NAME][name.len()..]);
 }
 
 // Tells a load entry, on a line: file, disk address, length, load address, start offset, and whether it is a program.
-fn append_entry(page: &mut Page, entry: &[u8; ENTRY], directory: &[u8]) {
+fn append_entry(page: &mut Page, entry: &[u8; ENTRY], directory: &[u8])
+    ensures { page.new.room.ghost_name ≡ page.old.room.ghost_name }
+{
     append_name(page, directory, entry);
     let [volume, partition, _, _, sector, ..] = *entry;
     let track = u16::low_first_at(entry, 2);
@@ -128,7 +153,9 @@ fn append_entry(page: &mut Page, entry: &[u8; ENTRY], directory: &[u8]) {
 }
 
 // Tells the load list, with a line above it that names its columns. An entry of zeros is none.
-fn append_list(page: &mut Page, block: &[u8; 194], directory: &[u8]) {
+fn append_list(page: &mut Page, block: &[u8; 194], directory: &[u8])
+    ensures { page.new.room.ghost_name ≡ page.old.room.ghost_name }
+{
     writeln!(
         page,
         "file     volume partition  track sector length   load at  start  kind"
@@ -141,8 +168,12 @@ fn append_list(page: &mut Page, block: &[u8; 194], directory: &[u8]) {
     }
 }
 
-// Tells what a login is given: the honor flag, and what the block has, unless nothing can be loaded.
-pub fn append_honored(page: &mut Page, honor: Honor, block: &[u8; 194], directory: &[u8]) {
+// Tells what a login is given: the honor flag, and what the block has, unless nothing can be loaded. A number and no `Honor`, so that
+// it takes any.
+pub fn append_honored(page: &mut Page, flag: u8, block: &[u8; 194], directory: &[u8])
+    ensures { page.new.room.ghost_name ≡ page.old.room.ghost_name }
+{
+    let honor = honor_of(flag);
     writeln!(page, "honor flag {}: {}", u8::from(honor), words_of(honor));
     if honor != Honor::Nothing {
         append_setting(page, block);

@@ -1,4 +1,6 @@
 // The command boot: what a login is given to load, by the tables in a folder. What that is, the crate `boot` alone says.
+ghost use Rattle.std.specs.Prelude.{◌≡◌, ◌≤◌, IfSome, length};
+
 use crate::{LINE, NAME, Status, argument, file_named, misused, refuse_name, say};
 use boot::{Honor, Login, Tables};
 use files::Errors;
@@ -12,28 +14,32 @@ fn read_table<'a, R: Files + Errors>(
     folder: &[u8],
     name: &[u8],
     table: &'a mut [u8],
-) -> Option<&'a [u8]> {
+) -> Option<&'a [u8]>
+    ensures { IfSome result (λ t. length t.now ≤ length table.old) }
+{
     let mut room = [0u8; LINE];
     let mut path = Page::new(&mut room);
     path.append(folder);
     path.append(b"/");
     path.append(name);
     let mut what = [0u8; LINE];
-    let read = files::read_file(rt, path.text(), table);
-    let n = files::or_tell(rt, file_named(&mut what, path.text()).text(), read)?;
+    let (n, read) = files::read_file(rt, path.text(), table);
+    files::or_tell(rt, file_named(&mut what, path.text()).text(), read)?;
     Some(&table[..n])
 }
 
 // Tells what the tables give a login.
-fn append_answer(page: &mut Page, login: &Login, tables: &Tables) -> Status {
+fn append_answer(page: &mut Page, login: &Login, tables: &Tables) -> Status
+    ensures { page.new.room.ghost_name ≡ page.old.room.ghost_name }
+{
     let mut block = [0u8; boot::BLOCK];
     match boot::boot(login, tables, &mut block) {
         Ok(honor) => {
-            blocks::append_honored(page, honor, &block, tables.directory);
+            blocks::append_honored(page, u8::from(honor), &block, tables.directory);
             Status::of(honor != Honor::Nothing)
         }
         Err(refusal) => {
-            blocks::append_refused(page, refusal);
+            blocks::append_refused(page, refusal.number());
             Status::Broken
         }
     }

@@ -51,6 +51,7 @@ fn append_line<D: Display + Drop, F: Fn(&Column) -> D>(
     field: F,
 )
     requires { F.IsAlwaysCallable field }
+    ensures { page.new.room.ghost_name ≡ page.old.room.ghost_name }
 {
     write!(page, "{label:<26}");
     for size in sizes {
@@ -62,13 +63,17 @@ fn append_line<D: Display + Drop, F: Fn(&Column) -> D>(
 }
 
 // The lines at the head of both tables.
-fn append_head(page: &mut Page, sizes: &[u32]) {
+fn append_head(page: &mut Page, sizes: &[u32])
+    ensures { page.new.room.ghost_name ≡ page.old.room.ghost_name }
+{
     append_line(page, sizes, "size code", |c| c.size);
     append_line(page, sizes, "partition in kilobytes", |c| c.kilobytes());
 }
 
 // The lines of CP/M's fields.
-fn append_cpm(page: &mut Page, sizes: &[u32]) {
+fn append_cpm(page: &mut Page, sizes: &[u32])
+    ensures { page.new.room.ghost_name ≡ page.old.room.ghost_name }
+{
     append_line(page, sizes, "SPT  sectors per track", |c| c.cpm.spt);
     append_line(page, sizes, "BSH  block shift", |c| c.cpm.bsh);
     append_line(page, sizes, "BLM  block mask", |c| c.cpm.blm);
@@ -82,7 +87,9 @@ fn append_cpm(page: &mut Page, sizes: &[u32]) {
 }
 
 // The lines of MS-DOS's fields.
-fn append_msdos(page: &mut Page, sizes: &[u32]) {
+fn append_msdos(page: &mut Page, sizes: &[u32])
+    ensures { page.new.room.ghost_name ≡ page.old.room.ghost_name }
+{
     append_line(
         page,
         sizes,
@@ -120,7 +127,9 @@ fn append_msdos(page: &mut Page, sizes: &[u32]) {
 }
 
 // A system's blocks in bytes, a line for each size code.
-fn append_blocks(page: &mut Page, sizes: &[u32], system: System) {
+fn append_blocks(page: &mut Page, sizes: &[u32], system: System)
+    ensures { page.new.room.ghost_name ≡ page.old.room.ghost_name }
+{
     for size in sizes {
         let mut block = [0u8; params::BYTES];
         if params::write(system, *size, &mut block).is_ok() {
@@ -132,7 +141,9 @@ fn append_blocks(page: &mut Page, sizes: &[u32], system: System) {
 }
 
 // A system's table below its title: the lines at the head, those of its fields, and the blocks in bytes.
-fn append_table(page: &mut Page, sizes: &[u32], system: System) {
+fn append_table(page: &mut Page, sizes: &[u32], system: System)
+    ensures { page.new.room.ghost_name ≡ page.old.room.ghost_name }
+{
     append_head(page, sizes);
     match system {
         System::Cpm => append_cpm(page, sizes),
@@ -142,7 +153,9 @@ fn append_table(page: &mut Page, sizes: &[u32], system: System) {
 }
 
 // Puts down both systems' tables for these size codes.
-pub fn append_tables(page: &mut Page, sizes: &[u32]) {
+pub fn append_tables(page: &mut Page, sizes: &[u32])
+    ensures { page.new.room.ghost_name ≡ page.old.room.ghost_name }
+{
     writeln!(page, "CP/M 2.2 disk parameter block");
     append_table(page, sizes, System::Cpm);
     writeln!(

@@ -7,7 +7,7 @@ mod boots;
 mod disks;
 mod words;
 
-ghost use Rattle.std.specs.Prelude.{◌≤◌, length};
+ghost use Rattle.std.specs.Prelude.{◌≤◌, ◌<◌, IfSome, length};
 
 use files::Errors;
 use pages::frame::Unfit;
@@ -121,9 +121,9 @@ fn file_named<'a>(room: &'a mut [u8], name: &[u8]) -> Page<'a> {
 fn check_named<R: Files + Print + Errors>(rt: &R, name: &[u8]) -> Option<Status> {
     let mut file = [0u8; site::ROOM];
     let mut what = [0u8; LINE];
-    let read = files::read_file(rt, name, &mut file);
+    let (n, read) = files::read_file(rt, name, &mut file);
     match files::or_tell(rt, file_named(&mut what, name).text(), read) {
-        Some(n) => check_bytes(rt, name, &file[..n]),
+        Some(()) => check_bytes(rt, name, &file[..n]),
         None => Some(Status::Failed),
     }
 }
@@ -158,7 +158,9 @@ fn check_site<R: Env + Files + Print + Errors>(rt: &R, words: Range<usize>) -> O
 }
 
 // The number that a word is the digit of.
-fn digit_of(word: &[u8]) -> Option<u32> {
+fn digit_of(word: &[u8]) -> Option<u32>
+    ensures { IfSome result (λ d. d < 10) }
+{
     match word {
         [digit] => char::from(*digit).to_digit(10),
         _ => None,

@@ -28,6 +28,7 @@ impl Rows {
     // Tells the first and the last byte of row i.
     fn append_span(self, page: &mut Page, i: usize)
         requires { i < 256 }
+        ensures { page.new.room.ghost_name ≡ page.old.room.ghost_name }
     {
         let first = self.from + self.width * i;
         write!(page, "{first} to {}", first + self.width - 1);
@@ -36,6 +37,7 @@ impl Rows {
     // Tells where a row stands, and where the earlier one does, if there is one.
     fn append_places(self, page: &mut Page, row: u8, earlier: Option<usize>)
         requires { IfSome earlier (λ e. e < 256) }
+        ensures { page.new.room.ghost_name ≡ page.old.room.ghost_name }
     {
         write!(page, " (bytes ");
         self.append_span(page, usize::from(row));
@@ -115,7 +117,9 @@ impl Partition {
 }
 
 // Tells how long the file is. Of one that is too long no more has been read than shows that.
-fn append_length(page: &mut Page, file: &[u8]) {
+fn append_length(page: &mut Page, file: &[u8])
+    ensures { page.new.room.ghost_name ≡ page.old.room.ghost_name }
+{
     let n = file.len();
     if site::ROOM <= n {
         write!(page, "more than 3592 bytes in all");
@@ -125,7 +129,9 @@ fn append_length(page: &mut Page, file: &[u8]) {
 }
 
 // Of a header out of range: tells its numbers.
-fn append_header(page: &mut Page, file: &[u8], header: Header) {
+fn append_header(page: &mut Page, file: &[u8], header: Header)
+    ensures { page.new.room.ghost_name ≡ page.old.room.ghost_name }
+{
     let Header {
         users_from,
         partitions_from,
@@ -144,6 +150,7 @@ fn append_header(page: &mut Page, file: &[u8], header: Header) {
 // Of a user row: tells that it has the name of an earlier one, and where they stand.
 fn append_user(page: &mut Page, row: u8, earlier: Option<usize>)
     requires { IfSome earlier (λ e. e < 256) }
+    ensures { page.new.room.ghost_name ≡ page.old.room.ghost_name }
 {
     write!(page, ": user row {row}");
     if let Some(earlier) = earlier {
@@ -157,7 +164,9 @@ fn append_user(page: &mut Page, row: u8, earlier: Option<usize>)
 }
 
 // A field is out of range: all that the rules say something of are told, whichever it is.
-fn append_range(page: &mut Page, row: Partition) {
+fn append_range(page: &mut Page, row: Partition)
+    ensures { page.new.room.ghost_name ≡ page.old.room.ghost_name }
+{
     let Partition {
         volume,
         number,
@@ -173,7 +182,9 @@ fn append_range(page: &mut Page, row: Partition) {
 }
 
 // Tells what is wrong with a partition row, by itself or beside an earlier one.
-fn append_breach(page: &mut Page, row: Partition, breach: Breach, earlier: Option<usize>) {
+fn append_breach(page: &mut Page, row: Partition, breach: Breach, earlier: Option<usize>)
+    ensures { page.new.room.ghost_name ≡ page.old.room.ghost_name }
+{
     let Partition { volume, number, .. } = row;
     match (breach, earlier) {
         (Breach::Range, _) | (_, None) => append_range(page, row),
@@ -199,6 +210,7 @@ fn append_breach(page: &mut Page, row: Partition, breach: Breach, earlier: Optio
 #[tactic(auto, unfolding(site::specs::Faults::fault_row))]
 fn append_fault(page: &mut Page, file: &[u8], header: Header, fault: Fault)
     requires { checked file.now ≡ Err fault }
+    ensures { page.new.room.ghost_name ≡ page.old.room.ghost_name }
 {
     let earlier = site::earlier_row(file, fault);
     match fault {
@@ -215,7 +227,9 @@ fn append_fault(page: &mut Page, file: &[u8], header: Header, fault: Fault)
 }
 
 // Checks the file, and tells what came of it.
-pub fn append_verdict(page: &mut Page, file: &[u8]) -> Status {
+pub fn append_verdict(page: &mut Page, file: &[u8]) -> Status
+    ensures { page.new.room.ghost_name ≡ page.old.room.ghost_name }
+{
     let Some(header) = Header::of_file(file) else {
         write!(
             page,
