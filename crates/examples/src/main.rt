@@ -12,7 +12,8 @@ const ASSIGN: [u8; 15] = *b"\x17ARCHIVE1\0\0\0\0\0\0";
 
 // What it is an example of, the refusal, and the first n bytes of the answer. What cannot be written is left out.
 fn print(rt: &impl Print, what: &str, word: u64, n: usize) {
-    let _ = print!(rt; "{what}{}", word % 256);
+    let _ = print!(rt; "{what}");
+    let _ = print!(rt; "{}", word % 256);
     for byte in word.to_le_bytes().iter().skip(2).take(n) {
         let _ = print!(rt; " {byte:02X}");
     }
