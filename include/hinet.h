@@ -73,7 +73,7 @@
  *   Bytes that an entry needs on its deepest path, measured by bench/stack
  *   (memcpy and the like not counted):
  *     hinet_poll                                                1488
- *     hinet_boot                                                 744
+ *     hinet_boot                                                 728
  *     hinet_line_frame                                           688
  *     hinet_frame                                                576
  *     hinet_place                                                336
