@@ -29,8 +29,8 @@ const NAME: usize = 8;
 
 const MOST: usize = 31;
 
-// Tells a refusal by its number, 23 or another, and what it means. The buffer is the block's. A number and no `Refusal`, so that it
-// takes any.
+// Tells a refusal by its number, and what it means: 23, or 13 for any other, since `boot` refuses with no third. The buffer is the
+// block's. A number and no `Refusal`, so that it takes any.
 pub fn append_refused(page: &mut Page, number: u8)
     ensures { page.new.room.ghost_name ≡ page.old.room.ghost_name }
 {
